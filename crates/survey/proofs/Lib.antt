@@ -1,0 +1,13 @@
+pub mod SumOrder
+pub mod Sums
+pub mod Reaching
+pub mod Cycles
+pub mod Totals
+pub mod Eligible
+pub mod BalanceLaw
+pub mod Draining
+pub mod BalanceRule
+pub mod Rounds
+pub mod LastRound
+pub mod Verdicts
+pub mod Orders

@@ -1,0 +1,13 @@
+-- The words of document 01, a file for each part of it that defines something, in its order.
+pub mod Limits
+pub mod Survey
+pub mod Sets
+pub mod Pick
+pub mod Rounds
+pub mod Balance
+pub mod Words
+pub mod SurveyFile
+pub mod Refusals
+pub mod Faults
+pub mod Answers
+pub mod Drawings

@@ -1,0 +1,71 @@
+-- Numbers in bytes. Document 01, "What is built": "a group or a link is its pair of words as in the file, an amount is 8 bytes,
+-- low byte first, and a mark is one byte; a list's length is its number of whole entries."
+use Prim.Native.Nat.{ℕ, _+_, _*_, _/_, _<_}
+use mathlib.Core.Path.{_≡_}
+use mathlib.Core.Bool.{Bool, cond}
+use mathlib.Core.List.{List}
+use lib.ListN.{length, getD}
+use lib.Dec.{ltb, eqb}
+use Rattle.survey.specs.Limits.{entryBytes, blockPairs}
+use Rattle.survey.specs.Survey.{Group, Link, Survey}
+use Rattle.survey.specs.Sets.{Set}
+use Rattle.survey.specs.Balance.{Amounts}
+
+-- the little-endian 32-bit word whose four bytes begin at place i
+abbrev pub word : List ℕ → ℕ → ℕ
+word l i = getD l i 0 + 256 * getD l (i + 1) 0 + 65_536 * getD l (i + 2) 0 + 16_777_216 * getD l (i + 3) 0
+
+-- the number whose 8 bytes, low byte first, begin at place i: two words, the low one first
+abbrev pub longWord : List ℕ → ℕ → ℕ
+longWord l i = word l i + 4_294_967_296 * word l (i + 4)
+
+-- Where the entries of a list stand. In a lent list entry k stands at 8·k; in the blocks of a file, 62 to a block, the next block
+-- stands 16 bytes further on. So everywhere: at base + 8·k + gap·(k / 62).
+pub record Stand : Type 0 where
+  pub base : ℕ
+  pub gap : ℕ
+
+abbrev pub standsAt : Stand → ℕ → ℕ
+standsAt w k = w .base + entryBytes * k + w .gap * (k / blockPairs)
+
+abbrev pub lent : Stand
+lent = record { base = 0; gap = 0 }
+
+-- "a list's length is its number of whole entries"
+abbrev pub entries : List ℕ → ℕ
+entries l = length l / entryBytes
+
+-- "two words as in the file, .. dead then live; a link likewise, p then q"
+abbrev pub groupAt : List ℕ → Stand → ℕ → Group
+groupAt l w k = record { dead = word l (standsAt w k); live = word l (standsAt w k + 4) }
+
+abbrev pub linkAt : List ℕ → Stand → ℕ → Link
+linkAt l w k = record { from = word l (standsAt w k); to = word l (standsAt w k + 4) }
+
+abbrev pub amountAt : List ℕ → Stand → ℕ → ℕ
+amountAt l w k = longWord l (standsAt w k)
+
+-- f up to place n, and z from there on
+abbrev pub upTo {ℓ} : {A : Type ℓ} → ℕ → A → (ℕ → A) → ℕ → A
+upTo n z f k = cond (ltb k n) (f k) z
+
+-- the survey that n, e and two lists of entries give; nothing stands past its n groups and e links
+unfoldable pub surveyAt : ℕ → ℕ → List ℕ → Stand → List ℕ → Stand → Survey
+surveyAt n e g wg l wl =
+    record {
+      n = n;
+      e = e;
+      group = upTo n (record { dead = 0; live = 0 }) (groupAt g wg);
+      link = upTo e (record { from = 0; to = 0 }) (linkAt l wl);
+    }
+
+-- "given as lists"
+abbrev pub surveyOf : ℕ → ℕ → List ℕ → List ℕ → Survey
+surveyOf n e g l = surveyAt n e g lent l lent
+
+-- "one mark per group (1 in the set, 0 not)"
+abbrev pub markedSet : List ℕ → Set
+markedSet m g = eqb (getD m g 0) 1
+
+abbrev pub amountsOf : List ℕ → Amounts
+amountsOf a k = amountAt a lent k

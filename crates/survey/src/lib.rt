@@ -1,0 +1,2 @@
+// The words of document 01 and the small code that all parts share.
+pub mod answers;
