@@ -11,3 +11,4 @@ pub mod Rounds
 pub mod LastRound
 pub mod Verdicts
 pub mod Orders
+pub mod Admitted
