@@ -12,3 +12,5 @@ pub mod LastRound
 pub mod Verdicts
 pub mod Orders
 pub mod Admitted
+pub mod ReaderOne
+pub mod GivenSurvey

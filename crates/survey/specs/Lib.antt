@@ -10,4 +10,5 @@ pub mod SurveyFile
 pub mod Refusals
 pub mod Faults
 pub mod Answers
+pub mod Promises
 pub mod Drawings
