@@ -4,12 +4,12 @@ use native.Mathlib.Nat.{mul-comm, mul-pos, zero-mul}
 use native.Mathlib.Omega.{arith}
 use mathlib.Core.Path.{_≡_, refl}
 use Rattle.survey.specs.Survey.{Survey}
-use Rattle.survey.specs.Sets.{Set, In, Closed, Eligible, Contains, Same, total, deadOf, costOf, D, L}
+use Rattle.survey.specs.Sets.{Set, In, Closed, Eligible, Contains, total, deadOf, costOf, D, L}
 use Rattle.survey.specs.Pick.{Candidate, BetterSet, Best, IsPick}
 use Rattle.survey.specs.Rounds.{weights, totalPlus, totalMinus}
 use Rattle.survey.specs.Balance.{Amounts, BalanceAbove0, credit, debit, Settled, LargestSettled, Accepted}
 use Rattle.survey.proofs.Reaching.{Inside}
-use Rattle.survey.proofs.Totals.{total-mul, total-zero, member-le, contains-both}
+use Rattle.survey.proofs.Totals.{total-mul, total-zero, member-le}
 use Rattle.survey.proofs.BalanceLaw.{leaving, excess, lack, leaves-none, balance-law}
 
 -- what a set weighs, with D and L of the current set
@@ -22,10 +22,6 @@ weighs-minus s C B = total-mul s (costOf s) (D s C) B
 -- "L may be 0; such a candidate is better than every one with L above 0."
 pub nothing-live-better : {s : Survey} {A B : Set} → Candidate s A → Candidate s B → L s A ≡ 0 → 0 < L s B → BetterSet s A B
 nothing-live-better {s} {A} {B} a b z p = rw z (omega (arith, zero-mul (D s B), mul-pos p (a .dead)))
-
--- "It is unique."
-pub pick-one : {s : Survey} {A B : Set} → IsPick s A → IsPick s B → Same s A B
-pick-one {s} a b = contains-both s (a .contains _ (b .best)) (b .contains _ (a .best))
 
 module _ {s : Survey} (i : Inside s) (S : Set) (a : Amounts) (none : (g : ℕ) → g < s .n → BalanceAbove0 s (weights s S) a g → ⊥) where
   -- no balance is above 0, so what a closed set weighs falls short by what leaves it and by what its balances lack

@@ -2,13 +2,14 @@
 use Prim.Native.Nat.{ℕ, _+_, _*_, _≤_, _<_}
 use native.Mathlib.Nat.{mul-comm}
 use native.Mathlib.Omega.{arith}
-use mathlib.Core.Path.{_≡_, refl, ap₂, subst}
+use mathlib.Core.Path.{_≡_, refl, subst}
 use Rattle.survey.specs.Survey.{Survey}
 use Rattle.survey.specs.Sets.{Set, In, Eligible, Contains, Same, allGroups, outside, total, deadOf, costOf, D, L}
 use Rattle.survey.specs.Rounds.{Weights, weights, WeighsZero, Heaviest}
 use Rattle.survey.specs.Balance.{Amounts, credit, debit, LargestSettled, Accepted}
 use Rattle.survey.proofs.Reaching.{Inside}
-use Rattle.survey.proofs.Totals.{by-test, total-same, member-le, contains-both}
+use Rattle.survey.proofs.Totals.{by-test, member-le}
+use Rattle.survey.proofs.SameSets.{contains-both, total-same, weights-same}
 use Rattle.survey.proofs.Eligible.{eligible-all}
 use Rattle.survey.proofs.BalanceLaw.{excess}
 use Rattle.survey.proofs.BalanceRule.{weighs-plus, weighs-minus}
@@ -33,20 +34,13 @@ pub round-within : {s : Survey} {C S : Set} → Current s C → Heaviest s (weig
 round-within begin h = record { has = λ g l m. refl }
 round-within {s} (next {C = B} c h d) k = nested s B h d k
 
--- Sets that are the same give the same weights.
-pub weights-same : (s : Survey) {A B : Set} → Same s A B → weights s A ≡ weights s B
-weights-same s {A} {B} e =
-    ap₂ (λ (l : ℕ) (d : ℕ). let w : Weights = record { plus = λ g. deadOf s g * l; minus = λ g. costOf s g * d } in w)
-    (total-same s (costOf s) e)
-    (total-same s (deadOf s) e)
-
 -- a set weighs 0 by its own weights
 pub own-zero : (s : Survey) {C S : Set} → Same s C S → WeighsZero s (weights s C) S
 own-zero s {C} {S} e =
     omega (arith, weighs-plus s C S, weighs-minus s C S, product)
   where
     product : D s S * L s C ≡ L s S * D s C
-    product = rw (total-same s (deadOf s) e, total-same s (costOf s) e) (mul-comm (D s S) (L s S))
+    product = rw (total-same e (deadOf s), total-same e (costOf s)) (mul-comm (D s S) (L s S))
 
 -- Strictly: in a further round the set has fewer groups than the current one.
 pub round-fewer : {s : Survey} {C S : Set} → Current s C → Heaviest s (weights s C) S → (WeighsZero s (weights s C) S → ⊥) → size s S < size s C
@@ -57,7 +51,7 @@ round-fewer {s} {C} {S} c h d = at (λ le. d (own-zero s (same-size s (round-wit
 
 -- The last round's set is its current set.
 pub last-same : {s : Survey} {C S : Set} → Current s C → Heaviest s (weights s C) S → WeighsZero s (weights s C) S → Same s C S
-last-same {s} {C} c h z = contains-both s (round-within c h) (last-contains s C h (current-eligible c) z)
+last-same {s} {C} c h z = contains-both (round-within c h) (last-contains s C h (current-eligible c) z)
 
 -- The last round's amounts, made for the current set's weights, are accepted for the set itself.
 module _ {s : Survey} (i : Inside s) {C T : Set} {a : Amounts} (p : 0 < D s allGroups) (c : Current s C) (d : Drains s (weights s C) a T) (dry : (g : ℕ) → g < s .n → In T g → credit s (weights s C) a g ≤ debit s (weights s C) a g) (z : WeighsZero s (weights s C) (outside T)) where
@@ -80,7 +74,7 @@ module _ {s : Survey} (i : Inside s) {C T : Set} {a : Amounts} (p : 0 < D s allG
       heaviest = drained-heaviest s a (weights s C) i d dry
 
       own : weights s C ≡ weights s (outside T)
-      own = weights-same s (last-same c heaviest z)
+      own = weights-same (last-same c heaviest z)
 
       at : (g : ℕ) → credit s (weights s (outside T)) a g ≤ debit s (weights s (outside T)) a g → debit s (weights s (outside T)) a g < credit s (weights s (outside T)) a g → ⊥
       at g h b = omega arith

@@ -1,16 +1,32 @@
+-- The laws of the words of document 01, each file leaning on those above it.
+-- Sums over places and over sets.
 pub mod SumOrder
 pub mod Sums
+pub mod Totals
+-- Links: no cycle, and ranks.
 pub mod Reaching
 pub mod Cycles
-pub mod Totals
+-- Sets: which are the same, which are eligible, which one is the one.
+pub mod SameSets
 pub mod Eligible
+pub mod Unique
+-- The balance rule, and what drains.
 pub mod BalanceLaw
 pub mod Draining
 pub mod BalanceRule
+-- Rounds.
 pub mod Rounds
 pub mod LastRound
+-- Refusals: which one is given.
 pub mod Verdicts
 pub mod Orders
 pub mod Admitted
-pub mod ReaderOne
 pub mod GivenSurvey
+pub mod ReaderOne
+-- The drawings, decided by tests that compute.
+pub mod Deciding
+pub mod AllSets
+pub mod SetTests
+pub mod ComputedVerdicts
+pub mod ClaimTests
+pub mod Drawings

@@ -35,6 +35,7 @@ reader-one {f} {groups} {links} {r} {r′} {g} {g′} {l} {l′} a b =
   where
     apart : {x : Refusal} {v : Verdict} → v ≡ refused x → v ≡ fine → ⊥
     apart p q = let z : _≡_ {A = ℕ} 0 1 = cc in omega arith
+
     at : (r r′ : Reading) → readingVerdict r ≡ readingVerdict r′ → ReadLists f groups links r g l → ReadLists f groups links r′ g′ l′ → SameReading r r′ g g′ l l′
     at (Reading.Refused x) (Reading.Refused y) e p q = record { answer = cc; groups = p .0 ∙ sym (q .0); links = p .1 ∙ sym (q .1) }
     at (Reading.Refused x) (Reading.Survey n k) e p q = absurd (apart refl e)

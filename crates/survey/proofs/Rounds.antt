@@ -9,7 +9,8 @@ use Rattle.survey.specs.Sets.{Set, In, Out, Eligible, Contains, Same, no
 use Rattle.survey.specs.Pick.{Candidate, BetterSet, IsPick}
 use Rattle.survey.specs.Rounds.{weights, WeighsAtMost, WeighsZero, Heaviest, Rounds, last, more}
 use Rattle.survey.proofs.SumOrder.{sum-lt}
-use Rattle.survey.proofs.Totals.{by-test, not-both, total-zero, total-within, total-union, contains-both}
+use Rattle.survey.proofs.Totals.{by-test, not-both, total-zero, total-within, total-union}
+use Rattle.survey.proofs.SameSets.{contains-both}
 use Rattle.survey.proofs.Eligible.{eligible-none, eligible-union, eligible-meet, union-left, union-right, contains-trans}
 use Rattle.survey.proofs.BalanceRule.{weighs-plus, weighs-minus}
 
@@ -135,7 +136,7 @@ size s S = total s (λ g. 1) S
 -- A set inside another that has no fewer groups is the same.
 pub same-size : (s : Survey) {A B : Set} → Contains s A B → size s A ≤ size s B → Same s A B
 unfolding total
-same-size s {A} {B} c le = contains-both s c (record { has = λ g l m. by-test (B g) (λ y. y) (λ z. absurd (fewer g l m z)) })
+same-size s {A} {B} c le = contains-both c (record { has = λ g l m. by-test (B g) (λ y. y) (λ z. absurd (fewer g l m z)) })
   where
     at : (t u : Bool) → (t ≡ true → u ≡ true) → only t 1 ≤ only u 1
     at false u f = omega arith

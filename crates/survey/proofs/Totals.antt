@@ -91,16 +91,3 @@ module _ (s : Survey) where
       at x true false = refl
       at x false true = omega arith
       at x false false = refl
-
-  pub contains-both : {A B : Set} → Contains s A B → Contains s B A → Same s A B
-  contains-both {A} {B} c d = record { at = λ g l. at (A g) (B g) (d .has g l) (c .has g l) }
-    where
-      at : (t u : Bool) → (t ≡ true → u ≡ true) → (u ≡ true → t ≡ true) → t ≡ u
-      at true u f g = sym (f refl)
-      at false true f g = g refl
-      at false false f g = refl
-
-  -- What is summed over a set goes by what the set says of the survey's groups.
-  pub total-same : (f : ℕ → ℕ) {A B : Set} → Same s A B → total s f A ≡ total s f B
-  total-same f {A} {B} e =
-      omega (arith, total-within f A B (record { has = λ g l m. sym (e .at g l) ∙ m }), total-within f B A (record { has = λ g l m. e .at g l ∙ m }))
