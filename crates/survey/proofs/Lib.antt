@@ -29,4 +29,5 @@ pub mod AllSets
 pub mod SetTests
 pub mod ComputedVerdicts
 pub mod ClaimTests
+pub mod Claims
 pub mod Drawings

@@ -1,11 +1,12 @@
 -- Each part of document 01 looks for its faults in the one order, which ascends: so it gives the lowest number.
 use mathlib.Core.Path.{_≡_, refl}
 use mathlib.Core.Bool.{true}
-use mathlib.Core.List.{List}
+use mathlib.Core.List.{List, [], _∷_, map}
 use Prim.Native.Nat.{ℕ}
 use Rattle.survey.specs.Survey.{Survey}
-use Rattle.survey.specs.Refusals.{lookingOrder, InOrder, none, here, later}
+use Rattle.survey.specs.Refusals.{placeOf, lookingOrder, InOrder, none, here, later}
 use Rattle.survey.specs.Faults.{readerFaults, chooserFaults, checkerFaults}
+use Rattle.survey.specs.Answers.{sortNumber}
 use Rattle.survey.proofs.Verdicts.{ascending}
 
 pub looking-ascends : ascending lookingOrder ≡ true
@@ -22,3 +23,7 @@ chooser-order n e groups links marks amounts =
 pub checker-order : (n e : ℕ) (groups links marks amounts : List ℕ) → InOrder lookingOrder (checkerFaults n e groups links marks amounts)
 checker-order n e groups links marks amounts =
     here refl (later (later (later (later (here refl (later (later (later (here refl (later (here refl (later (here refl (later (here refl (later (here refl (later (here refl (later (here refl (later (here refl (later (here refl (later (here refl (later (here refl none)))))))))))))))))))))))))))))
+
+-- The table's last column, number by number: 0 nothing, 1 block, 2 group, 3 link. (6 has "nothing" besides, as a row of its own.)
+pub places-as-in-table : map (λ (m : ℕ). sortNumber (placeOf m 0)) lookingOrder ≡ 0 ∷ 0 ∷ 1 ∷ 1 ∷ 0 ∷ 1 ∷ 1 ∷ 2 ∷ 3 ∷ 3 ∷ 0 ∷ 0 ∷ 2 ∷ 3 ∷ 3 ∷ 0 ∷ 2 ∷ 2 ∷ []
+places-as-in-table = refl
