@@ -1,0 +1,3 @@
+-- The laws of counts and entries.
+pub mod CountLaws
+pub mod EntryLaws

@@ -1,0 +1,3 @@
+-- The laws of refusals, searches and tests.
+pub mod RefusalLaws
+pub mod SearchLaws

@@ -1,0 +1,2 @@
+-- Where a written number stands.
+pub mod Words
