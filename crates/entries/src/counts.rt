@@ -35,7 +35,9 @@ pub fn cross(l: Live, d: Dead) -> u64
     requires { ⌜ (l .0 ≤ sumLimit) × (d .0 ≤ sumLimit) ⌝ }
     ensures { λ r. ⌜ r ≡ l .0 * d .0 ⌝ }
 {
-    l.0 * d.0
+    let live = l.0;
+    let dead = d.0;
+    live * dead
 }
 
 // The weight of a group, "dead·L - live·D", where d and l are the sums of the current set.

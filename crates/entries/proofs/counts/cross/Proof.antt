@@ -6,7 +6,7 @@ use Rattle.entries.proofs.counts.cross.Statement.{statement}
 use Rattle.entries.proofs.counts.cross.Tie as tie
 
 mul-result : tie.Need-mul-result
-mul-result c = record { fits = omega (arith, mul-le-mul (c .before .before .pre .0) (c .before .before .pre .1)) }
+mul-result c = record { fits = omega (arith, mul-le-mul (c .pre .0) (c .pre .1)) }
 
 returns : tie.Need-returns
 returns c = search needs
