@@ -20,6 +20,7 @@ pub mod LastRound
 -- Refusals: which one is given.
 pub mod Verdicts
 pub mod Orders
+pub mod Small
 pub mod Admitted
 pub mod GivenSurvey
 pub mod ReaderOne
