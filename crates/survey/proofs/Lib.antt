@@ -23,6 +23,7 @@ pub mod Orders
 pub mod Small
 pub mod Admitted
 pub mod GivenSurvey
+pub mod SmallAnswers
 pub mod ReaderOne
 -- The drawings, decided by tests that compute.
 pub mod Deciding
