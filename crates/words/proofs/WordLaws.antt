@@ -19,12 +19,12 @@ pub bytes-of : (l : List ℕ) → ((k : ℕ) → Fits w8 (getD l k 0)) → Bytes
 bytes-of l given = record { small = λ k. given k .fits }
 
 -- the bytes from a place on
-abbrev bytesAt : ℕ → List ℕ → ℕ → List ℕ
+abbrev pub bytesAt : ℕ → List ℕ → ℕ → List ℕ
 bytesAt zero l i = []
 bytesAt (suc width) l i = getD l i 0 ∷ bytesAt width l (suc i)
 
 -- the number that bytes give, low byte first
-abbrev number : List ℕ → ℕ
+abbrev pub number : List ℕ → ℕ
 number [] = 0
 number (b ∷ bs) = b + 256 * number bs
 
