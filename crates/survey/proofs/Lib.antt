@@ -22,6 +22,7 @@ pub mod Verdicts
 pub mod Orders
 pub mod Small
 pub mod Admitted
+pub mod FewLinks
 pub mod GivenSurvey
 pub mod SmallAnswers
 pub mod ReaderOne
