@@ -1,0 +1,76 @@
+-- What tests tell, and how a search goes on: the loops of admission cite these, a line a need.
+use Prim.Native.Nat.{ℕ, _+_, _<_, _≤_}
+use mathlib.Core.Path.{_≡_, refl}
+use mathlib.Core.Bool.{Bool, true, false}
+use mathlib.Core.Logic.{_⊎_, inl, inr, ⊎-elim}
+use native.Mathlib.Omega.{arith}
+use lib.Dec.{leb, ltb}
+use borrow.Author.Tests.{ltb-true, ltb-false, leb-true, leb-false}
+use borrow.Author.Count.{below-more}
+use Rattle.survey.specs.Limits.{countLimit}
+use Rattle.survey.specs.Survey.{Group, Link, Ascends}
+use Rattle.survey.specs.Refusals.{Fault, Lowest, Clear}
+use Rattle.entries.specs.declared.counts.Group as counts
+use Rattle.entries.specs.declared.Link as entries
+use Rattle.entries.specs.Counts.{GroupIs}
+use Rattle.entries.specs.Entries.{LinkIs}
+use Rattle.refusals.specs.Searches.{Tells}
+
+-- ---- tests
+
+tells-by : {P : Type 0} (t : Bool) → (t ≡ true → P) → (t ≡ false → P → ⊥) → Tells P t
+tells-by true y z = y refl
+tells-by false y z = z refl
+
+pub tells-lt : (a b : ℕ) → Tells (a < b) (ltb a b)
+tells-lt a b = tells-by (ltb a b) (ltb-true a b) (λ e h. omega (arith, ltb-false a b e))
+
+pub tells-le : (a b : ℕ) → Tells (a ≤ b) (leb a b)
+tells-le a b = tells-by (leb a b) (leb-true a b) (λ e h. omega (arith, leb-false a b e))
+
+-- Of two counts, or two ends: where the first is not at fault, it lies with the second.
+pub second-count : {r : counts.Group} {g : Group} → GroupIs r g → r .dead .0 ≤ countLimit → Tells ((countLimit < g .dead) ⊎ (countLimit < g .live)) (ltb countLimit (r .live .0))
+second-count {r} i h =
+    tells-by (ltb countLimit (r .live .0))
+    (λ t. inr (omega (arith, ltb-true countLimit (r .live .0) t)))
+    (λ t. ⊎-elim (λ a. omega arith) (λ a. omega (arith, ltb-false countLimit (r .live .0) t)))
+
+pub second-end : {r : entries.Link} {k : Link} (n : ℕ) → LinkIs r k → r .from < n → Tells ((n ≤ k .from) ⊎ (n ≤ k .to)) (leb n (r .to))
+second-end {r} n i h =
+    tells-by (leb n (r .to)) (λ t. inr (omega (arith, leb-true n (r .to) t))) (λ t. ⊎-elim (λ a. omega arith) (λ a. omega (arith, leb-false n (r .to) t)))
+
+-- "strictly ascending by p, then q": where the froms are equal, it lies with the tos, else with the froms. Link k has one before it.
+module _ (a b : Link) {k : ℕ} (later : 0 < k) where
+  pub order-by-to : a .from ≡ b .from → Tells ((0 < k) × (Ascends a b → ⊥)) (leb (b .to) (a .to))
+  order-by-to e =
+      tells-by (leb (b .to) (a .to))
+      (λ t. (later, ⊎-elim (λ h. omega arith) (λ h. omega (arith, leb-true (b .to) (a .to) t))))
+      (λ t no-order. no-order .1 (inr (e, leb-false (b .to) (a .to) t)))
+
+  pub order-by-from : (a .from ≡ b .from → ⊥) → Tells ((0 < k) × (Ascends a b → ⊥)) (ltb (b .from) (a .from))
+  order-by-from d =
+      tells-by (ltb (b .from) (a .from))
+      (λ t. (later, ⊎-elim (λ h. omega (arith, ltb-true (b .from) (a .from) t)) (λ h. d (h .0))))
+      (λ t no-order. no-order .1 (inl (strictly d (ltb-false (b .from) (a .from) t))))
+    where
+      strictly : {x y : ℕ} → (x ≡ y → ⊥) → x ≤ y → x < y
+      strictly n l = omega arith
+
+-- ---- searches
+
+-- No place below k is at fault.
+pub record Before (f : Fault) (k : ℕ) : Type 0 where
+  pub none : (j : ℕ) → j < k → f .at j → ⊥
+
+module _ {f : Fault} where
+  pub before-first : Before f 0
+  before-first = record { none = λ j l h. omega arith }
+
+  pub before-next : {k : ℕ} → Before f k → (f .at k → ⊥) → Before f (k + 1)
+  before-next {k} b clear = record { none = below-more (λ j. f .at j → ⊥) k (b .none) clear }
+
+  pub found-here : {k : ℕ} → k < f .places → Before f k → f .at k → Lowest f k
+  found-here l b h = record { below = l; fault = h; first = b .none }
+
+  pub found-none : {k : ℕ} → f .places ≤ k → Before f k → Clear f
+  found-none l b = record { none = λ j h. b .none j (omega arith) }

@@ -1,0 +1,121 @@
+// What is asked of a block beside its check, and of the file as a whole: a test for each.
+use crate::kinds::blocks_needed;
+use crate::kinds::kind_of;
+use crate::kinds::used_words;
+use views::view::block_numbered;
+use views::view::block_word;
+ghost use mathlib.Core.Path.{_≡_};
+ghost use mathlib.Core.Logic.{_⊎_};
+ghost use Prim.Native.Nat.{_%_, _^_, _<_};
+ghost use lib.ListN.{length};
+ghost use Rattle.survey.specs.Limits.{groupLimit, linkLimit, blockBytes};
+ghost use Rattle.survey.specs.SurveyFile.{blockCount, numberIn, kindIn, kindOf, nIn, eIn, blocksNeeded, fileLimit, UnusedAreZero};
+ghost use Rattle.refusals.specs.Searches.{Tells};
+ghost use Rattle.views.specs.Views.{Within};
+ghost use Rattle.blocks.specs.Sizes.{Countable};
+
+pub fn blocks_in(file: &[u8]) -> usize
+    ensures { λ r. ⌜ r ≡ blockCount (now (file .entry)) ⌝ }
+{
+    file.len() / 512
+}
+
+// "Block 0, kind 1: word 2 is n, word 3 is e."
+pub fn n_in(file: &[u8]) -> usize
+    requires { ⌜ Within (now file) 0 ⌝ }
+    ensures { λ r. ⌜ (r ≡ nIn (now (file .entry))) × (r < 2 ^ 32) ⌝ }
+{
+    let n = block_word(file, 0, 2);
+    n as usize
+}
+
+pub fn e_in(file: &[u8]) -> usize
+    requires { ⌜ Within (now file) 0 ⌝ }
+    ensures { λ r. ⌜ (r ≡ eIn (now (file .entry))) × (r < 2 ^ 32) ⌝ }
+{
+    let e = block_word(file, 0, 3);
+    e as usize
+}
+
+// "file length is 0, no multiple of 512, or above 10,752"
+pub fn bad_length(file: &[u8]) -> bool
+    ensures { λ r. ⌜ Tells ((length (now (file .entry)) ≡ 0) ⊎ ((0 < length (now (file .entry)) % blockBytes) ⊎ (fileLimit < length (now (file .entry))))) r ⌝ }
+{
+    let long = file.len();
+    if long == 0 {
+        return true;
+    }
+    if 0 < long % 512 {
+        return true;
+    }
+    if 10_752 < long {
+        return true;
+    }
+    false
+}
+
+// "n or e outside its range"
+pub fn bad_range(n: usize, e: usize) -> bool
+    ensures { λ r. ⌜ Tells ((n < 1) ⊎ ((groupLimit < n) ⊎ (linkLimit < e))) r ⌝ }
+{
+    if n < 1 {
+        return true;
+    }
+    if 128 < n {
+        return true;
+    }
+    if 1_024 < e {
+        return true;
+    }
+    false
+}
+
+// "the number of blocks doesn't fit n and e"
+pub fn blocks_fit(file: &[u8]) -> bool
+    requires { ⌜ Within (now file) 0 ⌝ }
+    ensures { λ r. ⌜ Tells (blockCount (now (file .entry)) ≡ blocksNeeded (nIn (now (file .entry))) (eIn (now (file .entry)))) r ⌝ }
+{
+    let n = n_in(file);
+    let e = e_in(file);
+    if blocks_in(file) == blocks_needed(n, e) {
+        return true;
+    }
+    false
+}
+
+// "Word 0 is the block's number from 0, word 1 its kind": whether that is so, for this kind.
+pub fn number_and_kind(file: &[u8], b: usize, kind: u32) -> bool
+    requires { ⌜ Within (now file) b ⌝ }
+    ensures { λ r. ⌜ Tells ((numberIn (now (file .entry)) b ≡ b) × (kindIn (now (file .entry)) b ≡ kind)) r ⌝ }
+{
+    if !block_numbered(file, b) {
+        return false;
+    }
+    if block_word(file, b, 1) != kind {
+        return false;
+    }
+    true
+}
+
+// The same for the kind that block b has in a file of n groups.
+pub fn kind_agrees(file: &[u8], n: usize, b: usize) -> bool
+    requires { ⌜ Within (now file) b × (n < 2 ^ 32) ⌝ }
+    ensures { λ r. ⌜ Tells ((numberIn (now (file .entry)) b ≡ b) × (kindIn (now (file .entry)) b ≡ kindOf n b)) r ⌝ }
+{
+    number_and_kind(file, b, kind_of(n, b))
+}
+
+// "Unused words are 0."
+pub fn unused_are_zero(file: &[u8], n: usize, e: usize, b: usize) -> bool
+    requires { ⌜ Within (now file) b × Countable n e b ⌝ }
+    ensures { λ r. ⌜ Tells (UnusedAreZero (now (file .entry)) n e b) r ⌝ }
+{
+    let mut w = used_words(n, e, b);
+    while w < 126 {
+        if block_word(file, b, w) != 0 {
+            return false;
+        }
+        w += 1;
+    }
+    true
+}

@@ -1,0 +1,25 @@
+-- The answers of reader, chooser and checker fit the number that they cross the boundary as.
+use Prim.Native.Nat.{ℕ, _^_}
+use native.Mathlib.Omega.{arith}
+use mathlib.Core.List.{List}
+use Rattle.survey.specs.declared.answers.Reading.{Reading}
+use Rattle.survey.specs.Refusals.{AllClear}
+use Rattle.survey.specs.Faults.{fileFaults, readerFaults}
+use Rattle.survey.specs.Promises.{ReaderSays}
+use Rattle.survey.proofs.Small.{SmallBy}
+use Rattle.survey.proofs.SmallAnswers.{reader-small}
+use Rattle.survey.proofs.Verdicts.{fine-clear, clear-fine}
+use Rattle.words.specs.Words.{Bytes}
+use Rattle.words.proofs.WordLaws.{word-below}
+use Rattle.refusals.specs.Packed.{SmallReading}
+use Rattle.reader.proofs.FileLaws.{clear-fits}
+use Rattle.reader.proofs.Readings.{blocks-clear}
+
+pub reading-small : {f groups links : List ℕ} (r : Reading) {groups′ links′ : List ℕ} → Bytes f → ReaderSays f groups links r groups′ links′ → SmallReading r
+unfolding AllClear
+reading-small {f} {groups} {links} (Reading.Refused r) b says =
+    let small : SmallBy (2 ^ 32) r = reader-small f groups links (omega (arith, word-below b 8)) (omega (arith, word-below b 12)) (says .verdict) in
+    record { number = small .number; place = omega (arith, small .place) }
+reading-small {f} {groups} {links} (Reading.Survey n e) b says =
+    let fits = clear-fits f (blocks-clear f (clear-fine (fileFaults f) (fine-clear (readerFaults f groups links) (says .verdict) .1))) in
+    record { groups = omega (arith, says .lists .0, fits .groups); links = omega (arith, says .lists .1, fits .links) }

@@ -1,0 +1,3 @@
+-- The answers fit their number, and two numbers that a promise allows are equal.
+pub mod Fit
+pub mod NumberOne

@@ -1,0 +1,18 @@
+-- Two answers that an exported function's promise allows are equal, and so are the lists afterwards.
+use Prim.Native.Nat.{ℕ}
+use mathlib.Core.Path.{_≡_, ap, sym, _∙_}
+use mathlib.Core.List.{List}
+use Rattle.survey.specs.declared.answers.Reading.{Reading}
+use Rattle.survey.specs.Answers.{readingNumber}
+use Rattle.survey.proofs.ReaderOne.{reader-one}
+use Rattle.corkgully.specs.Numbers.{ReadNumber}
+
+pub record SameAnswer (x x′ : ℕ) (g g′ l l′ : List ℕ) : Type 0 where
+  pub answer : x ≡ x′
+  pub groups : g ≡ g′
+  pub links : l ≡ l′
+
+pub read-number-one : {f groups links : List ℕ} {x x′ : ℕ} {g g′ l l′ : List ℕ} → ReadNumber f groups links x g l → ReadNumber f groups links x′ g′ l′ → SameAnswer x x′ g g′ l l′
+read-number-one a b =
+    let same = reader-one (a .says) (b .says) in
+    record { answer = a .is ∙ ap (λ (r : Reading). readingNumber r) (same .answer) ∙ sym (b .is); groups = same .groups; links = same .links }

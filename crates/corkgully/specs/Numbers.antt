@@ -1,0 +1,13 @@
+-- Each answer over the boundary is one number, which a definition of crates/survey gives for each case of the answer.
+use Prim.Native.Nat.{ℕ}
+use mathlib.Core.Path.{_≡_}
+use mathlib.Core.List.{List}
+use Rattle.survey.specs.declared.answers.Reading.{Reading}
+use Rattle.survey.specs.Answers.{readingNumber}
+use Rattle.survey.specs.Promises.{ReaderSays}
+
+-- the number of the reader's answer, and the two lists afterwards
+pub record ReadNumber (f groups links : List ℕ) (number : ℕ) (groups′ links′ : List ℕ) : Type 0 where
+  pub reading : Reading
+  pub says : ReaderSays f groups links reading groups′ links′
+  pub is : number ≡ readingNumber reading

@@ -1,0 +1,2 @@
+-- What the reader's code says beyond crates/survey.
+pub mod Lent

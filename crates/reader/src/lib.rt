@@ -1,0 +1,79 @@
+// The reader of survey files. It looks at the lent lists, then at the blocks, then at the survey they hold, and copies the survey out only when
+// nothing is at fault: so a refusal has changed nothing.
+use admit::admit;
+use blocks::file::file_faults;
+use blocks::fill::fill;
+use blocks::kinds::first_link_block;
+use blocks::tests::e_in;
+use blocks::tests::n_in;
+use entries::whole_entries;
+use refusals::refused_whole;
+use survey::answers::Admission;
+use survey::answers::Reading;
+ghost use mathlib.Core.Path.{_≡_};
+ghost use Prim.Native.Nat.{_+_, _*_, _^_, _<_};
+ghost use Rattle.survey.specs.SurveyFile.{firstLinkBlock};
+ghost use Rattle.survey.specs.Refusals.{Answers};
+ghost use Rattle.survey.specs.Faults.{fileFaults};
+ghost use Rattle.survey.specs.Answers.{admissionVerdict};
+ghost use Rattle.survey.specs.Promises.{ReaderSays};
+ghost use Rattle.refusals.specs.Searches.{Tells};
+ghost use Rattle.reader.specs.Lent.{ListsShort};
+
+// Where the pairs of the group blocks stand: from word 2 of block 1 on, with 16 bytes between the pairs of one block and of the next.
+const GROUP_BASE: usize = 520;
+
+const BLOCK_GAP: usize = 16;
+
+// 1: "a lent list is shorter than 128 (groups) or 1,024 (links)"
+fn lists_short(groups: &[u8], links: &[u8]) -> bool
+    ensures { λ r. ⌜ Tells (ListsShort (now (groups .entry)) (now (links .entry))) r ⌝ }
+{
+    if whole_entries(groups) < 128 {
+        return true;
+    }
+    if whole_entries(links) < 1_024 {
+        return true;
+    }
+    false
+}
+
+// Where the pairs of the link blocks stand.
+fn link_base(n: usize) -> usize
+    requires { ⌜ n < 2 ^ 32 ⌝ }
+    ensures { λ r. ⌜ r ≡ 512 * firstLinkBlock n + 8 ⌝ }
+{
+    512 * first_link_block(n) + 8
+}
+
+// 2 to 12: the file's blocks, and then the survey in them, where it stands.
+fn faults_in(file: &[u8]) -> Admission
+    ensures { λ r. ⌜ Answers (fileFaults (now (file .entry))) (admissionVerdict r) ⌝ }
+{
+    let of_blocks = file_faults(file);
+    if let Admission::Refused(r) = of_blocks {
+        return Admission::Refused(r);
+    }
+    let n = n_in(file);
+    let e = e_in(file);
+    let base = link_base(n);
+    admit(n, e, file, GROUP_BASE, BLOCK_GAP, file, base, BLOCK_GAP)
+}
+
+pub fn read(file: &[u8], groups: &mut [u8], links: &mut [u8]) -> Reading
+    ensures { λ r. ⌜ ReaderSays (now (file .entry)) (now (groups .entry)) (now (links .entry)) r (now (groups .exit)) (now (links .exit)) ⌝ }
+{
+    if lists_short(groups, links) {
+        return Reading::Refused(refused_whole(1));
+    }
+    let faults = faults_in(file);
+    if let Admission::Refused(r) = faults {
+        return Reading::Refused(r);
+    }
+    let n = n_in(file);
+    let e = e_in(file);
+    let base = link_base(n);
+    fill(groups, n, file, GROUP_BASE, BLOCK_GAP);
+    fill(links, e, file, base, BLOCK_GAP);
+    Reading::Survey { n, e }
+}

@@ -1,0 +1,3 @@
+-- The laws of one block. Other crates' proofs cite them.
+pub mod ViewLaws
+pub mod SumLaws

@@ -1,0 +1,3 @@
+-- What the code of one block says beyond crates/survey.
+pub mod Views
+pub mod Sums

@@ -1,0 +1,106 @@
+// The view of a block: "through a view that knows its block number and shows its 126 words; the view is of the lent bytes themselves".
+// No function over a struct that holds a reference is covered by the borrow checker, so these are few and thin, each proved by hand over a
+// covered function on plain slices. All other code reads a file's blocks by `block_word`, `block_check` and
+// `block_numbered`, whose parameters are plain.
+use words::word_at;
+ghost use mathlib.Core.Path.{_≡_};
+ghost use Prim.Native.Nat.{_+_, _*_, _≤_, _<_};
+ghost use lib.ListN.{length};
+ghost use lib.Dec.{eqb};
+ghost use Rattle.survey.specs.Limits.{blockBytes, contentWords};
+ghost use Rattle.survey.specs.Words.{word};
+ghost use Rattle.survey.specs.SurveyFile.{blockWord, numberIn};
+ghost use Rattle.views.specs.Views.{Within, blockOf, Views};
+
+pub struct Block<'a> {
+    pub bytes: &'a [u8],
+    pub number: usize,
+}
+
+// The bytes of block b, where they stand.
+fn bytes_of<'a>(file: &'a [u8], b: usize) -> &'a [u8]
+    requires { ⌜ Within (now file) b ⌝ }
+    ensures { λ r. ⌜ now r ≡ blockOf (now (file .entry)) b ⌝ }
+{
+    let start = 512 * b;
+    let end = start + 512;
+    &file[start..end]
+}
+
+// Word w of a block's bytes.
+fn word_of(bytes: &[u8], w: usize) -> u32
+    requires { ⌜ 4 * w + 4 ≤ length (now bytes) ⌝ }
+    ensures { λ r. ⌜ r ≡ word (now (bytes .entry)) (4 * w) ⌝ }
+{
+    word_at(bytes, 4 * w)
+}
+
+// "126 words of content and two of check": check word 0 or 1.
+fn check_word_of(bytes: &[u8], which: usize) -> u32
+    requires { ⌜ 4 * (contentWords + which) + 4 ≤ length (now bytes) ⌝ }
+    ensures { λ r. ⌜ r ≡ word (now (bytes .entry)) (4 * (contentWords + which)) ⌝ }
+{
+    word_of(bytes, 126 + which)
+}
+
+// Whether word 0 is this number.
+fn says_number(bytes: &[u8], number: usize) -> bool
+    requires { ⌜ 4 ≤ length (now bytes) ⌝ }
+    ensures { λ r. ⌜ r ≡ eqb (word (now (bytes .entry)) 0) number ⌝ }
+{
+    let first = word_at(bytes, 0);
+    first as usize == number
+}
+
+fn block_at<'a>(file: &'a [u8], b: usize) -> Block<'a>
+    requires { ⌜ Within (now file) b ⌝ }
+    ensures { λ r. ⌜ Views r (now (file .entry)) b ⌝ }
+{
+    Block {
+        bytes: bytes_of(file, b),
+        number: b,
+    }
+}
+
+fn shown<'a>(block: Block<'a>, w: usize) -> u32
+    requires { ⌜ (length (now (block .bytes)) ≡ blockBytes) × (w < contentWords) ⌝ }
+    ensures { λ r. ⌜ r ≡ word (now (block .entry .bytes)) (4 * w) ⌝ }
+{
+    word_of(block.bytes, w)
+}
+
+fn check_word<'a>(block: Block<'a>, which: usize) -> u32
+    requires { ⌜ (length (now (block .bytes)) ≡ blockBytes) × (which < 2) ⌝ }
+    ensures { λ r. ⌜ r ≡ word (now (block .entry .bytes)) (4 * (contentWords + which)) ⌝ }
+{
+    check_word_of(block.bytes, which)
+}
+
+// "Word 0 is the block's number from 0": whether it is the number that the view knows.
+fn numbered<'a>(block: Block<'a>) -> bool
+    requires { ⌜ length (now (block .bytes)) ≡ blockBytes ⌝ }
+    ensures { λ r. ⌜ r ≡ eqb (word (now (block .entry .bytes)) 0) (block .entry .number) ⌝ }
+{
+    says_number(block.bytes, block.number)
+}
+
+pub fn block_word(file: &[u8], b: usize, w: usize) -> u32
+    requires { ⌜ Within (now file) b × (w < contentWords) ⌝ }
+    ensures { λ r. ⌜ r ≡ blockWord (now (file .entry)) b w ⌝ }
+{
+    shown(block_at(file, b), w)
+}
+
+pub fn block_check(file: &[u8], b: usize, which: usize) -> u32
+    requires { ⌜ Within (now file) b × (which < 2) ⌝ }
+    ensures { λ r. ⌜ r ≡ blockWord (now (file .entry)) b (contentWords + which) ⌝ }
+{
+    check_word(block_at(file, b), which)
+}
+
+pub fn block_numbered(file: &[u8], b: usize) -> bool
+    requires { ⌜ Within (now file) b ⌝ }
+    ensures { λ r. ⌜ r ≡ eqb (numberIn (now (file .entry)) b) b ⌝ }
+{
+    numbered(block_at(file, b))
+}

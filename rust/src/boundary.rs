@@ -1,0 +1,42 @@
+//! The exported functions as they are: byte slices in, one answer number out.
+//!
+//! A group is 8 bytes, two words as in the file, low byte first, dead then live; a link likewise,
+//! from then to. A list's length is its number of whole entries.
+//!
+//! The answer of a refusal is number + 256·sort + 65,536·place, with sort 0 nothing (place 0), 1
+//! block, 2 group and 3 link. The low 16 bits of a success are 0.
+
+#![allow(unsafe_code)]
+
+mod exported {
+    // Nothing compares these lines with the library's source: a slice is a pointer and then its
+    // length in bytes.
+    extern "C" {
+        pub fn corkgully_read(
+            file: *const u8,
+            file_length: usize,
+            groups: *mut u8,
+            groups_length: usize,
+            links: *mut u8,
+            links_length: usize,
+        ) -> u64;
+    }
+}
+
+/// Reads a survey file into lent lists of groups and links. Success is 65,536·n + 4,294,967,296·e,
+/// and the first n groups and first e links are written; a refusal writes nothing.
+pub fn read(file: &[u8], groups: &mut [u8], links: &mut [u8]) -> u64 {
+    // SAFETY: each pointer comes with the length of the slice it was taken from, the slices are
+    // borrowed until the call returns, and the two that are written overlap nothing. The function
+    // asks nothing else of its caller: it is proved for every input.
+    unsafe {
+        exported::corkgully_read(
+            file.as_ptr(),
+            file.len(),
+            groups.as_mut_ptr(),
+            groups.len(),
+            links.as_mut_ptr(),
+            links.len(),
+        )
+    }
+}

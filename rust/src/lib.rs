@@ -1,0 +1,49 @@
+//! The ingest tool's side of corkgully: a safe, typed wrapper of the proved library.
+//!
+//! A survey has groups, each with its count of dead and of live objects, and links: a link from p
+//! to q says that an object in p may point to one in q. [`read`] reads a survey file, or says by a
+//! [`Refusal`] what is wrong with it and where.
+//!
+//! The survey of figure 2 has five groups and four links, and its file three blocks of 512 bytes:
+//!
+//! ```
+//! use corkgully::{model, read, Group, Link, Place};
+//!
+//! let groups = [(2, 2), (4, 3), (1, 12), (6, 3), (10, 3)];
+//! let links = [(0, 2), (1, 2), (1, 3), (1, 4)];
+//! let mut file = model::build(5, 4, &groups, &links);
+//! assert_eq!(file.len(), 3 * 512);
+//!
+//! let survey = read(&file).unwrap();
+//! assert_eq!(survey.groups.len(), 5);
+//! assert_eq!(survey.groups[4], Group { dead: 10, live: 3 });
+//! assert_eq!(survey.links[0], Link { from: 0, to: 2 });
+//!
+//! // A byte of the second block goes wrong, and its check disagrees.
+//! file[600] ^= 1;
+//! let refusal = read(&file).unwrap_err();
+//! assert_eq!((refusal.number, refusal.place), (3, Place::Block(1)));
+//! assert_eq!(refusal.to_string(), "refused 3 at block 1: a block's check disagrees");
+//! ```
+//!
+//! The modules, from below:
+//!
+//! - [`boundary`]: the exported functions as they are, on bytes and numbers. The only unsafe code.
+//! - `answer`: what the answer number says, as [`Place`] and [`Refusal`].
+//! - `survey`: [`Survey`], [`Group`] and [`Link`], and their bytes.
+//! - `reader`: [`read`] and [`read_into`].
+//! - [`model`]: the same functions again in plain Rust, for tests and for comparing speed. It knows
+//!   nothing of the modules above.
+
+#![deny(unsafe_code)]
+#![warn(missing_docs)]
+
+mod answer;
+pub mod boundary;
+pub mod model;
+mod reader;
+mod survey;
+
+pub use answer::{Place, Refusal};
+pub use reader::{read, read_into};
+pub use survey::{Group, Link, Survey, MOST_GROUPS, MOST_LINKS};

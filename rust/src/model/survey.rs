@@ -1,0 +1,43 @@
+//! The faults of a survey however it came: its sizes, and 8 to 12.
+
+use super::answer::{at_group, at_link, nothing};
+use super::cycle::has_cycle;
+use super::Pair;
+
+/// The most groups of a survey.
+pub const MOST_GROUPS: usize = 128;
+/// The most links of a survey.
+pub const MOST_LINKS: usize = 1024;
+/// The most dead, and the most live, of a group.
+pub const MOST_COUNT: u32 = 1_000_000;
+
+/// Fault 5: n or e outside its range.
+pub(super) fn out_of_range(n: u64, e: u64) -> bool {
+    n < 1 || n > MOST_GROUPS as u64 || e > MOST_LINKS as u64
+}
+
+/// The first of the faults 8 to 12, as a refusal.
+pub(super) fn survey_fault(groups: &[Pair], links: &[Pair]) -> Option<u64> {
+    let n = groups.len();
+
+    let too_many = |&(dead, live): &Pair| dead > MOST_COUNT || live > MOST_COUNT;
+    if let Some(g) = groups.iter().position(too_many) {
+        return Some(at_group(8, g));
+    }
+    let outside = |&(from, to): &Pair| from as usize >= n || to as usize >= n;
+    if let Some(k) = links.iter().position(outside) {
+        return Some(at_link(9, k));
+    }
+    // The place is the later of the two links. Pairs compare by their first word, then by their
+    // second.
+    if let Some(k) = links.windows(2).position(|two| two[1] <= two[0]) {
+        return Some(at_link(10, k + 1));
+    }
+    if has_cycle(n, links) {
+        return Some(nothing(11));
+    }
+    if groups.iter().all(|&(dead, _)| dead == 0) {
+        return Some(nothing(12));
+    }
+    None
+}
