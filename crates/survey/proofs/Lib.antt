@@ -33,4 +33,5 @@ pub mod SetTests
 pub mod ComputedVerdicts
 pub mod ClaimTests
 pub mod Claims
+pub mod ChooserOne
 pub mod Drawings

@@ -3,15 +3,22 @@
 -- its lists, the chooser the first n marks and first e amounts; places after them stay unchanged. The checker writes nothing."
 use Prim.Native.Nat.{ℕ, _+_, _*_, _/_, _%_, _≤_, _<_}
 use mathlib.Core.Path.{_≡_}
+use mathlib.Core.Logic.{_⊎_}
 use mathlib.Core.List.{List}
 use lib.ListN.{length, getD}
 use Rattle.survey.specs.declared.answers.Reading.{Reading}
-use Rattle.survey.specs.Limits.{entryBytes}
-use Rattle.survey.specs.Words.{Stand, standsAt}
+use Rattle.survey.specs.declared.answers.Choice.{Choice}
+use Rattle.survey.specs.declared.answers.Judgement.{Judgement}
+use Rattle.survey.specs.Limits.{entryBytes, amountLimit}
+use Rattle.survey.specs.Survey.{Survey}
+use Rattle.survey.specs.Pick.{IsPick}
+use Rattle.survey.specs.Rounds.{RoundsOf}
+use Rattle.survey.specs.Balance.{Accepted}
+use Rattle.survey.specs.Words.{Stand, standsAt, surveyOf, markedSet, amountsOf}
 use Rattle.survey.specs.SurveyFile.{nIn, eIn, firstGroupBlock, firstLinkBlock, inBlocks}
 use Rattle.survey.specs.Refusals.{Answers}
-use Rattle.survey.specs.Faults.{readerFaults}
-use Rattle.survey.specs.Answers.{readingVerdict}
+use Rattle.survey.specs.Faults.{readerFaults, chooserFaults, checkerFaults}
+use Rattle.survey.specs.Answers.{readingVerdict, choiceVerdict, judgementVerdict}
 
 -- The list after: its first k entries are, byte for byte, those that stand in a file, and the rest of it is as before.
 pub record Filled (before after : List ℕ) (k : ℕ) (f : List ℕ) (w : Stand) : Type 0 where
@@ -32,3 +39,36 @@ ReadLists f groups links (Reading.Survey n e) groups′ links′ =
 pub record ReaderSays (f groups links : List ℕ) (r : Reading) (groups′ links′ : List ℕ) : Type 0 where
   pub verdict : Answers (readerFaults f groups links) (readingVerdict r)
   pub lists : ReadLists f groups links r groups′ links′
+
+-- The marks after: one for each group, 0 or 1, and the rest of the list as before.
+pub record Marked (before after : List ℕ) (n : ℕ) : Type 0 where
+  pub long : length after ≡ length before
+  pub bits : (g : ℕ) → g < n → (getD after g 0 ≡ 0) ⊎ (getD after g 0 ≡ 1)
+  pub rest : (g : ℕ) → n ≤ g → getD after g 0 ≡ getD before g 0
+
+-- The amounts after: one for each link, within its limit, and the rest of the list as before.
+pub record AmountsPut (before after : List ℕ) (e : ℕ) : Type 0 where
+  pub long : length after ≡ length before
+  pub small : (k : ℕ) → k < e → amountsOf after k ≤ amountLimit
+  pub rest : (i : ℕ) → entryBytes * e ≤ i → getD after i 0 ≡ getD before i 0
+
+-- the pick of the survey, with its count of rounds and amounts that the balance rule accepts
+pub record Chooses (s : Survey) (rounds : ℕ) (marks amounts marks′ amounts′ : List ℕ) : Type 0 where
+  pub marked : Marked marks marks′ (s .n)
+  pub put : AmountsPut amounts amounts′ (s .e)
+  pub pick : IsPick s (markedSet marks′)
+  pub counted : RoundsOf s rounds (markedSet marks′)
+  pub accepted : Accepted s (markedSet marks′) (amountsOf amounts′)
+
+abbrev pub ChosenLists : Survey → List ℕ → List ℕ → Choice → List ℕ → List ℕ → Type 0
+ChosenLists s marks amounts (Choice.Refused r) marks′ amounts′ = (marks′ ≡ marks) × (amounts′ ≡ amounts)
+ChosenLists s marks amounts (Choice.Chosen rounds) marks′ amounts′ = Chooses s rounds marks amounts marks′ amounts′
+
+-- the chooser's promise: of n, e and four lent lists, the answer and the two lists that it may write
+pub record ChooserSays (n e : ℕ) (groups links marks amounts : List ℕ) (r : Choice) (marks′ amounts′ : List ℕ) : Type 0 where
+  pub verdict : Answers (chooserFaults n e groups links marks amounts) (choiceVerdict r)
+  pub lists : ChosenLists (surveyOf n e groups links) marks amounts r marks′ amounts′
+
+-- the checker's promise
+pub record CheckerSays (n e : ℕ) (groups links marks amounts : List ℕ) (r : Judgement) : Type 0 where
+  pub verdict : Answers (checkerFaults n e groups links marks amounts) (judgementVerdict r)
