@@ -1,5 +1,4 @@
 // What is looked for at the groups: 8, "a dead or live count above 1,000,000", and 12, "every dead count is 0".
-use crate::limits::COUNT;
 use crate::lists::GroupList;
 use crate::lists::group_of;
 use refusals::found::Found;
@@ -7,6 +6,9 @@ ghost use Prim.Native.Nat.{_<_};
 ghost use Rattle.survey.specs.Faults.{badCount, noDead};
 ghost use Rattle.refusals.specs.Searches.{Finds, Tells};
 ghost use Rattle.admit.specs.Lists.{GroupsFit, groupsIn};
+
+// "a dead count and a live count, each 0 to 1,000,000"
+const COUNT: u64 = 1_000_000;
 
 fn above_limit(b: &[u8], list: GroupList, g: usize) -> bool
     requires { ⌜ GroupsFit (now b) list × (g < list .n) ⌝ }

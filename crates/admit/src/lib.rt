@@ -1,17 +1,16 @@
 // Which surveys are admitted, given as lists: refusals 5 and 8 to 12. The lists may be lent ones or stand in the blocks of a file.
 mod counts;
-mod limits;
 mod links;
 mod lists;
 
 use crate::counts::first_above_limit;
 use crate::counts::none_dead;
-use crate::limits::GROUPS;
-use crate::limits::LINKS;
 use crate::links::first_not_above;
 use crate::links::first_outside;
 use crate::lists::GroupList;
 use cycles::has_cycle;
+use cycles::limits::GROUPS;
+use cycles::limits::LINKS;
 use cycles::lists::LinkList;
 use refusals::found::Found;
 use refusals::refused;

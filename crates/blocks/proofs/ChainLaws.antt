@@ -1,24 +1,25 @@
 -- How a chain of looks puts its answer together: at each row it stops, with that row's refusal, or goes past it.
 -- Assumes nothing.
-use Prim.Native.Nat.{ℕ, zero, suc, _+_, _*_, _%_, _≤_, _<_}
-use mathlib.Core.Path.{_≡_, refl, sym, ap, subst}
+use Prim.Native.Nat.{ℕ, _+_, _*_, _%_, _≤_, _<_}
+use mathlib.Core.Path.{_≡_, refl, ap, subst}
 use mathlib.Core.Logic.{_⊎_, inl, inr}
-use mathlib.Core.List.{List, [], _∷_, _++_}
+use mathlib.Core.List.{List, _∷_, _++_}
 use native.Mathlib.Omega.{arith}
 use lib.ListN.{length}
 use Rattle.survey.specs.declared.answers.Refusal.{Refusal}
 use Rattle.survey.specs.declared.answers.Admission.{Admission}
 use Rattle.survey.specs.Limits.{blockBytes}
-use Rattle.survey.specs.SurveyFile.{fileLimit}
-use Rattle.survey.specs.Refusals.{Verdict, fine, refused, Fault, whole, among, Clear, Lowest, Given, Answers, AllClear}
+use Rattle.survey.specs.SurveyFile.{fileLimit, surveyIn}
+use Rattle.survey.specs.Refusals.{Verdict, refused, Fault, whole, among, Clear, Lowest, Answers, AllClear}
+use Rattle.survey.specs.Faults.{surveyFaults, fileFaults}
 use Rattle.survey.specs.Answers.{admissionVerdict}
-use Rattle.survey.proofs.Verdicts.{given, past, fine-clear, early, afterwards}
+use Rattle.survey.proofs.Verdicts.{given, past, fine-clear, early}
 use Rattle.refusals.specs.declared.found.Found.{Found}
 use Rattle.refusals.specs.declared.found.Found.the-variants.{At, Missing}
 use Rattle.refusals.specs.Searches.{Finds}
 use Rattle.refusals.specs.Packed.{refusalAt, refusalWhole}
 use Rattle.views.specs.Views.{Within}
-use Rattle.blocks.specs.FileFaults.{openingFaults}
+use Rattle.blocks.specs.FileFaults.{openingFaults, blockFaults}
 
 -- A row whose place is "nothing" ..
 module _ {number : ℕ} {P : Type 0} {fs : List Fault} where
@@ -70,3 +71,7 @@ module _ (fs gs : List Fault) (r : Admission) where
 pub opened-header : {f : List ℕ} → AllClear (openingFaults f) → Within f 0
 unfolding AllClear
 opened-header c = has-header (c .0 .none 0 (omega arith))
+
+-- The rows of the blocks, and then those of the survey, are the rows of a file.
+pub file-parts : (f : List ℕ) → blockFaults f ++ surveyFaults (surveyIn f) ≡ fileFaults f
+file-parts f = refl

@@ -1,9 +1,9 @@
 -- Laws of copied entries: what one long word, read and written, does to the bytes, and how a list is filled entry by entry.
 -- Assumes nothing.
-use Prim.Native.Nat.{ℕ, zero, suc, _+_, _*_, _/_, _%_, _^_, _≤_, _<_}
+use Prim.Native.Nat.{ℕ, zero, suc, _+_, _*_, _/_, _%_, _≤_, _<_}
 use mathlib.Core.Path.{_≡_, refl, sym, ap, ap₂, subst, _∙_}
-use mathlib.Core.Logic.{_⊎_, inl, inr}
-use mathlib.Core.List.{List, [], _∷_, _++_}
+use mathlib.Core.Logic.{inl, inr}
+use mathlib.Core.List.{List, _∷_, _++_}
 use native.Mathlib.Decide.{decLt}
 use native.Mathlib.Omega.{arith}
 use native.Mathlib.Nat.{add-zero, add-suc, suc-add}
@@ -15,7 +15,7 @@ use Rattle.survey.specs.Words.{longWord, Stand, standsAt}
 use Rattle.survey.specs.Promises.{Filled}
 use Rattle.words.specs.Words.{bytesOf, withLongWord, Bytes}
 use Rattle.words.proofs.WordLaws.{bytesAt, number, length-with-long-word, with-long-word-outside}
-use Rattle.blocks.specs.Copies.{Copied, Fillable}
+use Rattle.blocks.specs.Copies.{Copied}
 
 -- The bytes of the number that some bytes give are those bytes.
 number-again : (width : ℕ) {l : List ℕ} → Bytes l → (i : ℕ) → bytesOf width (number (bytesAt width l i)) ≡ bytesAt width l i

@@ -1,11 +1,11 @@
 -- A block is the header, a group block or a link block, and what its kind and its used words are follows from that.
 -- Assumes nothing.
-use Prim.Native.Nat.{ℕ, _+_, _-_, _*_, _≤_, _<_}
-use mathlib.Core.Path.{_≡_, refl, sym, _∙_}
+use Prim.Native.Nat.{ℕ, _-_, _*_, _≤_, _<_}
+use mathlib.Core.Path.{_≡_, refl, sym}
 use mathlib.Core.Bool.{Bool, true, false}
 use native.Mathlib.Omega.{arith}
 use lib.Dec.{eqb, leb}
-use borrow.Author.Tests.{eqb-true, eqb-false, leb-true, leb-false}
+use borrow.Author.Tests.{eqb-true, eqb-false, leb-true, leb-false, eq-eqb, ne-eqb, le-leb, lt-leb}
 use Rattle.survey.specs.Limits.{blockPairs}
 use Rattle.survey.specs.SurveyFile.{firstGroupBlock, firstLinkBlock, kindOf, pairWords, usedWords}
 
@@ -14,6 +14,17 @@ pub data BlockSort (n e b : ℕ) : Type 0 where
   header : b ≡ 0 → kindOf n b ≡ 1 → usedWords n e b ≡ 4 → BlockSort n e b
   groups : 0 < b → b < firstLinkBlock n → kindOf n b ≡ 2 → usedWords n e b ≡ pairWords (n - blockPairs * (b - firstGroupBlock)) → BlockSort n e b
   links : firstLinkBlock n ≤ b → kindOf n b ≡ 3 → usedWords n e b ≡ pairWords (e - blockPairs * (b - firstLinkBlock n)) → BlockSort n e b
+
+-- which kind it is
+module _ (n b : ℕ) where
+  pub header-kind : b ≡ 0 → 1 ≡ kindOf n b
+  header-kind z = rw (eq-eqb b 0 z)
+
+  pub link-kind : (b ≡ 0 → ⊥) → firstLinkBlock n ≤ b → 3 ≡ kindOf n b
+  link-kind d l = simp (ne-eqb b 0 d, le-leb (firstLinkBlock n) b l)
+
+  pub group-kind : (b ≡ 0 → ⊥) → b < firstLinkBlock n → 2 ≡ kindOf n b
+  group-kind d l = simp (ne-eqb b 0 d, lt-leb (firstLinkBlock n) b l)
 
 module _ (n e b : ℕ) where
   pub sort-of : BlockSort n e b

@@ -7,8 +7,9 @@ use mathlib.Core.List.{List}
 use native.Mathlib.Decide.{ℕ-discrete}
 use native.Mathlib.Omega.{arith}
 use lib.ListN.{length}
-use Rattle.survey.specs.Limits.{blockBytes, contentWords}
-use Rattle.survey.specs.SurveyFile.{blockCount, blockWord, CheckAgrees, numberIn, kindIn, kindOf, nIn, eIn, blocksNeeded, usedWords, UnusedAreZero}
+use Rattle.survey.specs.Limits.{blockBytes, blockPairs, entryBytes}
+use Rattle.survey.specs.Words.{standsAt}
+use Rattle.survey.specs.SurveyFile.{blockCount, CheckAgrees, numberIn, kindIn, kindOf, nIn, eIn, blocksFor, firstGroupBlock, firstLinkBlock, blocksNeeded, UnusedAreZero, inBlocks}
 use Rattle.survey.specs.Refusals.{Clear, AllClear}
 use Rattle.survey.specs.Faults.{badLength, badCheck, badBlockCount, badKind, badUnused, AdmittedFile}
 use Rattle.views.specs.Views.{Within}
@@ -30,6 +31,18 @@ layout-within {n = n} {e = e} l b m = record { fits = omega (arith, l .long, who
   where
     whole : (x y : ℕ) → y < x → blockBytes * y + blockBytes ≤ blockBytes * x
     whole x y h = omega arith
+
+-- and so does each of its groups and links
+module _ {f : List ℕ} {n e : ℕ} (l : Layout f n e) where
+  pub groups-within : (k : ℕ) → k < n → standsAt (inBlocks firstGroupBlock) k + entryBytes ≤ length f
+  groups-within k h =
+      let last : k / blockPairs < blocksFor n = omega arith in
+      omega (arith, l .long)
+
+  pub links-within : (k : ℕ) → k < e → standsAt (inBlocks (firstLinkBlock n)) k + entryBytes ≤ length f
+  links-within k h =
+      let last : k / blockPairs < blocksFor e = omega arith in
+      omega (arith, l .long)
 
 -- that two numbers are equal can be told
 equal : {x y : ℕ} → ((x ≡ y → ⊥) → ⊥) → x ≡ y

@@ -5,3 +5,4 @@ pub mod ChainLaws
 pub mod CopyLaws
 pub mod LaidOut
 pub mod SameFile
+pub mod FilledSurvey

@@ -2,17 +2,16 @@
 -- 0, or a check word, which the others determine; and a word determines its four bytes.
 -- Assumes nothing.
 use Prim.Native.Nat.{ℕ, zero, suc, _+_, _-_, _*_, _/_, _%_, _≤_, _<_}
-use mathlib.Core.Path.{_≡_, refl, sym, ap, ap₂, subst, _∙_}
-use mathlib.Core.Bool.{Bool, true, false}
+use mathlib.Core.Path.{_≡_, sym, ap, subst, _∙_}
 use mathlib.Core.List.{List}
 use native.Mathlib.Decide.{decLt}
 use native.Mathlib.Omega.{arith}
-use lib.ListN.{length, getD}
+use lib.ListN.{getD}
 use lib.Seq.{ext-getD}
 use Rattle.survey.specs.Limits.{blockBytes, contentWords, blockPairs}
 use Rattle.survey.specs.Survey.{Survey, Group, Link}
 use Rattle.survey.specs.Words.{word, standsAt, groupAt, linkAt}
-use Rattle.survey.specs.SurveyFile.{Sums, blockWord, sums, nIn, eIn, firstGroupBlock, firstLinkBlock, blocksNeeded, kindOf, pairWords, usedWords, inBlocks, surveyIn}
+use Rattle.survey.specs.SurveyFile.{Sums, blockWord, sums, nIn, eIn, firstGroupBlock, firstLinkBlock, blocksNeeded, pairWords, usedWords, inBlocks, surveyIn}
 use Rattle.survey.specs.Faults.{AdmittedFile}
 use Rattle.survey.proofs.GivenSurvey.{given-n, given-e, given-group, given-link}
 use Rattle.words.specs.Words.{Bytes}

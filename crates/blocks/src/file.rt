@@ -54,7 +54,7 @@ fn layout_faults(file: &[u8]) -> Admission
 }
 
 // 2 to 7.
-pub fn file_faults(file: &[u8]) -> Admission
+pub fn block_faults(file: &[u8]) -> Admission
     ensures { λ r. ⌜ Answers (blockFaults (now (file .entry))) (admissionVerdict r) ⌝ }
 {
     let opening = opening_faults(file);

@@ -16,6 +16,7 @@ fn copy_entry(list: &mut [u8], to: usize, file: &[u8], at: usize)
     put_long_word(list, to, long_word_at(file, at));
 }
 
+// The first count entries: entry k stands at base + 8·k + gap·(k / 62) in the file and at 8·k in the list.
 pub fn fill(list: &mut [u8], count: usize, file: &[u8], base: usize, gap: usize)
     requires { ⌜ Fillable (now list) count (now file) (stand base gap) ⌝ }
     ensures { λ r. ⌜ Filled (now (list .entry)) (now (list .exit)) count (now (file .entry)) (stand base gap) ⌝ }

@@ -6,6 +6,7 @@ ghost use Rattle.survey.specs.Limits.{blockPairs};
 ghost use Rattle.survey.specs.SurveyFile.{blocksFor, firstLinkBlock, blocksNeeded, kindOf, pairWords, usedWords};
 ghost use Rattle.blocks.specs.Sizes.{Countable};
 
+// So many blocks have k pairs.
 fn blocks_for(k: usize) -> usize
     requires { ⌜ k < 2 ^ 32 ⌝ }
     ensures { λ r. ⌜ r ≡ blocksFor k ⌝ }

@@ -1,6 +1,11 @@
 // The blocks of a survey file: their kinds and tests, the faults 2 to 7 of a file, and its entries copied into lent lists.
-pub mod file;
+mod file;
 pub mod fill;
-pub mod kinds;
-pub mod searches;
-pub mod tests;
+mod kinds;
+mod searches;
+mod tests;
+
+pub use file::block_faults;
+pub use kinds::first_link_block;
+pub use tests::e_in;
+pub use tests::n_in;

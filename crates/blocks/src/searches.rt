@@ -15,7 +15,7 @@ pub fn first_bad_check(file: &[u8]) -> Found
     ensures { λ r. ⌜ Finds (badCheck (now (file .entry))) r ⌝ }
 {
     let count = blocks_in(file);
-    let mut b = 0;
+    let mut b = 0; // the header too
     while b < count {
         if !check_agrees(file, b) {
             return Found::At(b);

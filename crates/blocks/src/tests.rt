@@ -5,11 +5,9 @@ use crate::kinds::used_words;
 use views::view::block_numbered;
 use views::view::block_word;
 ghost use mathlib.Core.Path.{_≡_};
-ghost use mathlib.Core.Logic.{_⊎_};
-ghost use Prim.Native.Nat.{_%_, _^_, _<_};
-ghost use lib.ListN.{length};
-ghost use Rattle.survey.specs.Limits.{groupLimit, linkLimit, blockBytes};
-ghost use Rattle.survey.specs.SurveyFile.{blockCount, numberIn, kindIn, kindOf, nIn, eIn, blocksNeeded, fileLimit, UnusedAreZero};
+ghost use Prim.Native.Nat.{_^_, _<_};
+ghost use Rattle.survey.specs.SurveyFile.{blockCount, numberIn, kindIn, kindOf, nIn, eIn, blocksNeeded, UnusedAreZero};
+ghost use Rattle.survey.specs.Faults.{badLength, badRange};
 ghost use Rattle.refusals.specs.Searches.{Tells};
 ghost use Rattle.views.specs.Views.{Within};
 ghost use Rattle.blocks.specs.Sizes.{Countable};
@@ -39,7 +37,7 @@ pub fn e_in(file: &[u8]) -> usize
 
 // "file length is 0, no multiple of 512, or above 10,752"
 pub fn bad_length(file: &[u8]) -> bool
-    ensures { λ r. ⌜ Tells ((length (now (file .entry)) ≡ 0) ⊎ ((0 < length (now (file .entry)) % blockBytes) ⊎ (fileLimit < length (now (file .entry))))) r ⌝ }
+    ensures { λ r. ⌜ Tells (badLength (now (file .entry)) .at 0) r ⌝ }
 {
     let long = file.len();
     if long == 0 {
@@ -56,7 +54,7 @@ pub fn bad_length(file: &[u8]) -> bool
 
 // "n or e outside its range"
 pub fn bad_range(n: usize, e: usize) -> bool
-    ensures { λ r. ⌜ Tells ((n < 1) ⊎ ((groupLimit < n) ⊎ (linkLimit < e))) r ⌝ }
+    ensures { λ r. ⌜ Tells (badRange n e .at 0) r ⌝ }
 {
     if n < 1 {
         return true;

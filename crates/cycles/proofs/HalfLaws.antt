@@ -1,12 +1,12 @@
 -- Laws of the working list's halves: what a store into one half changes, and what it leaves.
 use Prim.Native.Nat.{ℕ, _+_, _-_, _*_, _/_, _%_, _<_}
-use mathlib.Core.Path.{_≡_, refl, sym, ap, _∙_}
+use mathlib.Core.Path.{_≡_, refl, ap, _∙_}
 use mathlib.Core.List.{List}
 use native.Mathlib.Decide.{ℕ-discrete, decLt}
 use native.Mathlib.Omega.{arith}
 use lib.ListN.{length, getD, set, replicate, getD-replicate, List·getD-eq-default, length-replicate}
 use lib.Seq.{getD-set-same, getD-set-other}
-use Rattle.cycles.specs.Halves.{half, lowOf, highOf, Blank, Put, Kept, LowPut, HighPut, Noted, Settled, Lowered}
+use Rattle.cycles.specs.Halves.{half, lowOf, highOf, Blank, Kept, LowPut, HighPut, Noted}
 
 pub low-below : (w : List ℕ) (g : ℕ) → lowOf w g < half
 unfolding lowOf

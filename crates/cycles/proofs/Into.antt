@@ -9,15 +9,14 @@ use native.Mathlib.Omega.{arith}
 use lib.Dec.{eqb, leb}
 use borrow.Author.Tests.{eqb-true, eq-eqb, ne-eqb, leb-true, leb-false, le-leb, lt-leb}
 use Rattle.survey.specs.Limits.{linkLimit}
-use Rattle.survey.specs.Survey.{Survey, Ascends}
-use Rattle.survey.specs.Sets.{sum, only}
+use Rattle.survey.specs.Survey.{Survey}
+use Rattle.survey.specs.Sets.{only}
 use Rattle.survey.specs.Refusals.{Clear}
 use Rattle.survey.specs.Faults.{badEnd, badOrder}
-use Rattle.survey.proofs.SumOrder.{before-or-last, sum-at-most}
+use Rattle.survey.proofs.SumOrder.{sum-at-most}
 use Rattle.survey.proofs.Sums.{sum-cong, sum-zero, term-le}
 use Rattle.survey.proofs.Reaching.{Inside}
-use Rattle.survey.proofs.Totals.{not-both}
-use Rattle.cycles.specs.Halves.{half, lowOf, highOf, Blank, Put, Noted, Kept}
+use Rattle.cycles.specs.Halves.{half, lowOf, Blank, Put, Noted, Kept}
 use Rattle.cycles.specs.Peeling.{into, Indexed, Tallied}
 use Rattle.cycles.proofs.Members.{sum-one, sum-some, one-at-most}
 
@@ -68,8 +67,9 @@ module _ (s : Survey) where
       both true false h = absurd (omega arith)
       both false b h = absurd (omega arith)
 
-  -- ---- rows 9 and 10 are clear
+-- ---- rows 9 and 10 are clear
 
+module _ (s : Survey) where
   pub inside : Clear (badEnd s) → Inside s
   inside c = record { from = λ k l. under (λ h. c .none k l (inl h)); to = λ k l. under (λ h. c .none k l (inr h)) }
     where
@@ -99,33 +99,39 @@ module _ (s : Survey) where
           before : (i ≡ suc j → ⊥) → i ≤ suc j → i ≤ j
           before d h = omega arith
 
-  -- ---- the tally
+-- ---- the tally
 
-  pub tally-none : (w : List ℕ) → Blank w → Tallied s w (s .e)
-  tally-none w b =
+-- From k on and from k + 1 on differ at k alone.
+pub one-further : (k j : ℕ) → (j ≡ k → ⊥) → leb k j ≡ leb (k + 1) j
+one-further k j d = at (leb k j) refl
+  where
+    over : (j ≡ k → ⊥) → k ≤ j → k + 1 ≤ j
+    over d h = omega arith
+
+    at : (t : Bool) → leb k j ≡ t → leb k j ≡ leb (k + 1) j
+    at true e = e ∙ sym (le-leb (k + 1) j (over d (leb-true k j e)))
+    at false e = e ∙ sym (lt-leb (k + 1) j (omega (arith, leb-false k j e)))
+
+-- .. so the link into its end is all that they count more.
+counts-one : (s : Survey) (k : ℕ) → k < s .e → (g : ℕ) → into s (λ j. leb k j) g ≡ into s (λ j. leb (k + 1) j) g + only (eqb (s .link k .to) g) 1
+counts-one s k l = into-less s (λ j. leb k j) (λ j. leb (k + 1) j) k l (le-leb k k (omega arith)) (lt-leb (k + 1) k (omega arith)) (λ j m d. one-further k j d)
+
+module _ {s : Survey} where
+  pub tally-none : {w : List ℕ} → Blank w → Tallied s w (s .e)
+  tally-none b =
       record {
-        low = λ g. b .zero g ∙ sym (into-none (λ j. leb (s .e) j) (λ k l. lt-leb (s .e) k l) g);
+        low = λ g. b .zero g ∙ sym (into-none s (λ j. leb (s .e) j) (λ k l. lt-leb (s .e) k l) g);
         index = record { early = λ j a b. absurd (omega arith); run = λ j a b. absurd (omega arith) };
       }
 
+  pub tally-at : {w : List ℕ} {m k : ℕ} → m ≡ k → Tallied s w m → Tallied s w k
+  tally-at {w} z t = subst (λ (x : ℕ). Tallied s w x) z t
+
   -- No more links come to a group than there are.
   pub tally-small : {w : List ℕ} {k : ℕ} → s .e ≤ linkLimit → Tallied s w k → (g : ℕ) → lowOf w g + 1 < half
-  tally-small {w} {k} h t g = omega (arith, t .low g, into-at-most (λ j. leb k j) g)
+  tally-small {w} {k} h t g = omega (arith, t .low g, into-at-most s (λ j. leb k j) g)
 
   module _ (k : ℕ) (l : k < s .e) where
-    pub one-further : (j : ℕ) → (j ≡ k → ⊥) → leb k j ≡ leb (k + 1) j
-    one-further j d = at (leb k j) refl
-      where
-        over : (j ≡ k → ⊥) → k ≤ j → k + 1 ≤ j
-        over d h = omega arith
-
-        at : (t : Bool) → leb k j ≡ t → leb k j ≡ leb (k + 1) j
-        at true e = e ∙ sym (le-leb (k + 1) j (over d (leb-true k j e)))
-        at false e = e ∙ sym (lt-leb (k + 1) j (omega (arith, leb-false k j e)))
-
-    counts-one : (g : ℕ) → into s (λ j. leb k j) g ≡ into s (λ j. leb (k + 1) j) g + only (eqb (s .link k .to) g) 1
-    counts-one = into-less (λ j. leb k j) (λ j. leb (k + 1) j) k l (le-leb k k (omega arith)) (lt-leb (k + 1) k (omega arith)) (λ j m d. one-further j d)
-
     pub index-next : {high high′ : ℕ → ℕ} → Clear (badOrder s) → Indexed s high (k + 1) → Put high high′ (s .link k .from) k → Indexed s high′ k
     index-next {high} {high′} c ix p =
         record { early = λ j a b. early j a b (ℕ-discrete (s .link j .from) (s .link k .from)); run = λ j a b i f t. run j a b i f t (ℕ-discrete (s .link j .from) (s .link k .from)) }
@@ -147,20 +153,23 @@ module _ (s : Survey) where
         run : (j : ℕ) → k ≤ j → j < s .e → (i : ℕ) → high′ (s .link j .from) ≤ i → i ≤ j → Dec (s .link j .from ≡ s .link k .from) → s .link i .from ≡ s .link j .from
         run j a b i f t (yes e) =
             let after : k ≤ i = rw (e, p .at) at f in
-            omega (arith, froms-ascend c k i after (omega arith), froms-ascend c i j t b)
+            omega (arith, froms-ascend s c k i after (omega arith), froms-ascend s c i j t b)
         run j a b i f t (no d) = ix .run j (later j a d) b i (rw (p .other (s .link j .from) d) at f) t
 
-    pub tally-next : {w w′ : List ℕ} → Clear (badOrder s) → Tallied s w (k + 1) → Noted w w′ (s .link k .from) (s .link k .to) k → Tallied s w′ k
-    tally-next {w} {w′} c t p = record { low = λ g. at g (ℕ-discrete g (s .link k .to)); index = index-next c (t .index) (p .high) }
+    pub tally-next : {w w′ : List ℕ} {m : ℕ} → m ≡ k + 1 → Clear (badOrder s) → Tallied s w m → Noted w w′ (s .link k .from) (s .link k .to) k → Tallied s w′ k
+    tally-next {w} {w′} z c u p = record { low = λ g. at g (ℕ-discrete g (s .link k .to)); index = index-next c (t .index) (p .high) }
       where
+        t : Tallied s w (k + 1)
+        t = tally-at z u
+
         at : (g : ℕ) → Dec (g ≡ s .link k .to) → lowOf w′ g ≡ into s (λ j. leb k j) g
         at g (yes e) =
             let one : only (eqb (s .link k .to) g) 1 ≡ 1 = rw (eq-eqb (s .link k .to) g (sym e)) in
             let here : lowOf w′ g ≡ lowOf w g + 1 = rw e (p .low .at) in
-            omega (arith, counts-one g, t .low g)
+            omega (arith, counts-one s k l g, t .low g)
         at g (no d) =
             let none : only (eqb (s .link k .to) g) 1 ≡ 0 = rw (ne-eqb (s .link k .to) g (λ z. d (sym z))) in
-            omega (arith, counts-one g, t .low g, p .low .other g d)
+            omega (arith, counts-one s k l g, t .low g, p .low .other g d)
 
 pub indexed-kept : {s : Survey} {high high′ : ℕ → ℕ} {k : ℕ} → Kept high high′ → Indexed s high k → Indexed s high′ k
 indexed-kept {s} {high} {high′} {k} e ix = subst (λ (f : ℕ → ℕ). Indexed s f k) (λ i h. sym (e .at h) i) ix

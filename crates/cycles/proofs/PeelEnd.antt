@@ -3,19 +3,18 @@ use Prim.Native.Nat.{ℕ, _+_, _<_, _≤_}
 use mathlib.Core.Path.{_≡_, refl, sym, ap, _∙_, subst}
 use mathlib.Core.Bool.{Bool, true, false, _&&_, not}
 use mathlib.Core.List.{List}
-use native.Mathlib.Decide.{ℕ-discrete}
 use native.Mathlib.Omega.{arith}
 use lib.Dec.{eqb, leb, ltb}
 use lib.ListN.{length}
-use borrow.Author.Tests.{eqb-true, eq-eqb, leb-true, leb-false, le-leb, lt-leb, ltb-true, ltb-false}
+use borrow.Author.Tests.{eqb-true, eq-eqb, leb-true, le-leb, lt-leb, ltb-true, ltb-false}
 use Rattle.survey.specs.Survey.{Survey, Cycle}
-use Rattle.survey.specs.Sets.{Set, In, Out, outside, sum, only}
+use Rattle.survey.specs.Sets.{In, Out, outside}
 use Rattle.survey.proofs.Reaching.{Inside}
-use Rattle.survey.proofs.Cycles.{Ranking, Rest, ranking-no-cycle, rest-cycle}
+use Rattle.survey.proofs.Cycles.{ranking-no-cycle, rest-cycle}
 use Rattle.survey.proofs.Totals.{not-both}
 use Rattle.refusals.specs.Searches.{Tells}
 use Rattle.cycles.specs.Halves.{lowOf, highOf, Kept, Lowered}
-use Rattle.cycles.specs.Peeling.{into, left, Peels, noneOwed, owedFrom, Walks, Walked}
+use Rattle.cycles.specs.Peeling.{left, Peels, noneOwed, owedFrom, Walks, Walked}
 use Rattle.cycles.proofs.HalfLaws.{kept-all, kept-on}
 use Rattle.cycles.proofs.Members.{size-all, size-lacks}
 use Rattle.cycles.proofs.Threads.{thread-end}
@@ -24,6 +23,9 @@ use Rattle.cycles.proofs.Peels.{left-yes, top-at-most, peeled-at-most, 
 use Rattle.cycles.proofs.PeelSteps.{owed-counts, lower-one}
 
 -- ---- the end: the stack is empty
+
+pub peels-at : {s : Survey} {low : ℕ → ℕ} {top c : ℕ} {owed : ℕ → Bool} → top ≡ 0 → Peels s low top c owed → Peels s low 0 c owed
+peels-at {s} {low} {c = c} {owed = owed} z p = subst (λ (x : ℕ). Peels s low x c owed) z p
 
 module _ {s : Survey} (i : Inside s) {low : ℕ → ℕ} {c : ℕ} (p : Peels s low 0 c noneOwed) where
   -- All are peeled: the order of peeling is a ranking.
@@ -99,7 +101,7 @@ module _ {s : Survey} {w₀ w : List ℕ} {first top g k : ℕ} (x : Walking s w
       not-after = rw (eq-eqb (s .link k .from) g e, lt-leb (k + 1) k (omega arith))
 
       one-less : (j : ℕ) → (j ≡ k → ⊥) → owedFrom s g k j ≡ owedFrom s g (k + 1) j
-      one-less j d = ap (λ (b : Bool). eqb (s .link j .from) g && b) (one-further s k l j d)
+      one-less j d = ap (λ (b : Bool). eqb (s .link j .from) g && b) (one-further k j d)
 
   pub walk-end : (k < s .e → s .link k .from ≡ g → ⊥) → Walked s w₀ w first top g
   walk-end over = record { peels = λ c p. owed-same (x .keeps c p) noneOwed (λ j l. none-left j l) (λ j z. absurd (not-both z refl)); high = x .high }

@@ -2,17 +2,17 @@
 use Prim.Native.Nat.{ℕ, _+_, _-_, _<_, _≤_}
 use mathlib.Core.Path.{_≡_, refl, sym, ap, _∙_, subst}
 use mathlib.Core.Bool.{Bool, true, false, cond, _&&_, _||_, not}
-use mathlib.Core.Logic.{_⊎_, inl, inr, ⊎-elim}
+use mathlib.Core.Logic.{_⊎_, ⊎-elim}
 use native.Mathlib.Decide.{ℕ-discrete}
 use native.Mathlib.Omega.{arith}
 use lib.Dec.{eqb, leb}
 use borrow.Author.Tests.{eqb-true, eq-eqb, ne-eqb, le-leb}
 use Rattle.survey.specs.Survey.{Survey}
-use Rattle.survey.specs.Sets.{Set, In, Out, sum, only}
+use Rattle.survey.specs.Sets.{Set, In, Out, only}
 use Rattle.survey.proofs.Totals.{by-test, not-both}
-use Rattle.cycles.specs.Halves.{Put, Settled, pushed, waiting, Lowered}
+use Rattle.cycles.specs.Halves.{Settled, pushed, waiting, Lowered}
 use Rattle.cycles.specs.Peeling.{into, left, Threaded, without, Indexed, Peels, noneOwed, owedFrom}
-use Rattle.cycles.proofs.Members.{joined, joined-self, joined-other, joined-in, joined-has, joined-out, without-in, without-other, members-differ, size-joined}
+use Rattle.cycles.proofs.Members.{joined, joined-self, joined-other, joined-in, joined-out, without-in, without-other, members-differ, size-joined}
 use Rattle.cycles.proofs.Threads.{thread-moved, thread-push, thread-top}
 use Rattle.cycles.proofs.Into.{into-cong, into-less, into-has}
 
@@ -79,13 +79,13 @@ module _ {s : Survey} {low : ℕ → ℕ} {top c : ℕ} (p : Peels s low top c n
       at (yes e) = rw (kept, e, ranks-self) (p .below (s .link k .from) start)
       at (no d) = rw (kept, ranks-other (s .link k .to) d) (p .rises k l (rw (joined-other g P (s .link k .to) d) at i))
 
-  pub peel-one : Peels s low (low g) (c + 1) (owedFrom s g (high g))
+  pub peel-one : {next : ℕ} → next ≡ low g → Peels s low next (c + 1) (owedFrom s g (high g))
   unfolding P owes
-  peel-one =
+  peel-one {next} under =
       record {
         peeled = joined g P;
         ready = without g (p .ready);
-        thread = thread-top g t (p .thread) .1;
+        thread = subst (λ (x : ℕ). Threaded low (without g (p .ready)) x) (sym under) (thread-top g t (p .thread) .1);
         inside = λ h i. p .inside h (without-in g (p .ready) h i .1);
         apart = λ h i. let w = without-in g (p .ready) h i in joined-other g P h (w .0) ∙ p .apart h (w .1);
         waits = λ h l o r.

@@ -1,24 +1,18 @@
 -- Laws of peeling: how it begins, what one group and one link of it do, and what it tells at its end (design/mathematics.md, 17 and 18).
 use Prim.Native.Nat.{ℕ, _+_, _-_, _<_, _≤_}
-use mathlib.Core.Path.{_≡_, refl, sym, ap, _∙_, subst}
-use mathlib.Core.Bool.{Bool, true, false, cond, _&&_, _||_, not}
-use mathlib.Core.Logic.{_⊎_, inl, inr, ⊎-elim}
-use native.Mathlib.Decide.{ℕ-discrete}
+use mathlib.Core.Path.{_≡_, refl, sym, ap, _∙_}
+use mathlib.Core.Bool.{Bool, true, false, _&&_, _||_, not}
 use native.Mathlib.Omega.{arith}
 use lib.Dec.{eqb, leb, ltb}
-use borrow.Author.Tests.{eqb-true, eqb-false, eq-eqb, ne-eqb, le-leb, ltb-true, ltb-false}
-use Rattle.survey.specs.Survey.{Survey, Cycle}
-use Rattle.survey.specs.Sets.{Set, In, Out, noGroup, outside, sum, only}
+use borrow.Author.Tests.{eqb-true, eqb-false, le-leb, ltb-true, ltb-false}
+use Rattle.survey.specs.Survey.{Survey}
+use Rattle.survey.specs.Sets.{Set, In, Out, noGroup}
 use Rattle.survey.proofs.Sums.{sum-zero}
-use Rattle.survey.proofs.Reaching.{Inside}
-use Rattle.survey.proofs.Cycles.{ranking-no-cycle, rest-cycle}
-use Rattle.survey.proofs.Totals.{by-test, not-both}
-use Rattle.refusals.specs.Searches.{Tells}
-use Rattle.cycles.specs.Halves.{Put, Kept, Settled, pushed, waiting, Lowered}
-use Rattle.cycles.specs.Peeling.{into, left, Threaded, without, zeros, Stacked, Indexed, Peels, noneOwed, owedFrom}
-use Rattle.cycles.proofs.Members.{joined, joined-self, joined-other, joined-in, joined-has, joined-out, without-in, without-self, without-other, members-differ, size-at-most, size-joined, size-all, size-lacks}
-use Rattle.cycles.proofs.Threads.{thread-moved, thread-push, thread-top, thread-end, thread-below}
-use Rattle.cycles.proofs.Into.{into-cong, into-less, into-has, into-some}
+use Rattle.survey.proofs.Totals.{not-both}
+use Rattle.cycles.specs.Peeling.{into, left, zeros, Stacked, Peels, noneOwed}
+use Rattle.cycles.proofs.Members.{joined, size-at-most, size-joined}
+use Rattle.cycles.proofs.Threads.{thread-top, thread-below}
+use Rattle.cycles.proofs.Into.{into-cong}
 
 -- a link that is not left starts at a peeled group
 left-no : (s : Survey) (P : Set) (k : ℕ) → left s P noneOwed k ≡ false → In P (s .link k .from)

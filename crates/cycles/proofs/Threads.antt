@@ -1,17 +1,16 @@
 -- Laws of the stack that is threaded through the low halves.
 use Prim.Native.Nat.{ℕ, _+_, _<_, _≤_}
 use mathlib.Core.Path.{_≡_, refl, sym, ap, _∙_, subst}
-use mathlib.Core.Bool.{Bool, true, false, _&&_, _||_, not}
-use mathlib.Core.Logic.{_⊎_, inl, inr, ⊎-elim}
+use mathlib.Core.Bool.{Bool, true, false, _&&_, not}
 use native.Mathlib.Decide.{ℕ-discrete}
 use native.Mathlib.Omega.{arith}
 use lib.Dec.{eqb, ltb}
 use borrow.Author.Tests.{eq-eqb, ne-eqb, ltb-true, ltb-false, lt-ltb, le-ltb}
 use Rattle.survey.specs.Sets.{Set, In, Out}
-use Rattle.survey.proofs.Totals.{by-test, not-both}
-use Rattle.cycles.specs.Halves.{Put, Kept, Settled, pushed, waiting}
+use Rattle.survey.proofs.Totals.{not-both}
+use Rattle.cycles.specs.Halves.{Put, Settled, pushed, waiting}
 use Rattle.cycles.specs.Peeling.{Threaded, end, on, without, zeros, Stacked}
-use Rattle.cycles.proofs.Members.{joined, joined-self, joined-other, joined-out, joined-without, without-in, members-differ}
+use Rattle.cycles.proofs.Members.{joined, joined-self, joined-out, joined-without, without-in, members-differ}
 
 -- A store elsewhere is nothing to the stack, nor is the way its set is written.
 pub thread-moved : {low low′ : ℕ → ℕ} {S S′ : Set} {top : ℕ} → Threaded low S top → ((h : ℕ) → In S h → low′ h ≡ low h) → ((h : ℕ) → S′ h ≡ S h) → Threaded low′ S′ top

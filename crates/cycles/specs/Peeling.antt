@@ -6,7 +6,7 @@ use mathlib.Core.List.{List}
 use lib.Dec.{eqb, leb, ltb}
 use Rattle.survey.specs.Survey.{Survey}
 use Rattle.survey.specs.Sets.{Set, In, Out, sum, only}
-use Rattle.cycles.specs.Halves.{half, lowOf, highOf, Kept}
+use Rattle.cycles.specs.Halves.{lowOf, highOf, Kept}
 
 -- the number of links into g that pass the test
 unfoldable pub into : Survey → (ℕ → Bool) → ℕ → ℕ

@@ -8,7 +8,6 @@ use crate::halves::settle;
 use crate::lists::LinkList;
 use crate::lists::link_of;
 ghost use Prim.Native.Nat.{_≤_, _<_};
-ghost use mathlib.Core.Path.{_≡_};
 ghost use lib.ListN.{length};
 ghost use Rattle.survey.specs.Limits.{groupLimit};
 ghost use Rattle.cycles.specs.Lists.{LinksHold, linksIn};

@@ -1,11 +1,11 @@
 // The reader of survey files. It looks at the lent lists, then at the blocks, then at the survey they hold, and copies the survey out only when
 // nothing is at fault: so a refusal has changed nothing.
 use admit::admit;
-use blocks::file::file_faults;
+use blocks::block_faults;
+use blocks::e_in;
 use blocks::fill::fill;
-use blocks::kinds::first_link_block;
-use blocks::tests::e_in;
-use blocks::tests::n_in;
+use blocks::first_link_block;
+use blocks::n_in;
 use entries::whole_entries;
 use refusals::refused_whole;
 use survey::answers::Admission;
@@ -50,7 +50,7 @@ fn link_base(n: usize) -> usize
 fn faults_in(file: &[u8]) -> Admission
     ensures { λ r. ⌜ Answers (fileFaults (now (file .entry))) (admissionVerdict r) ⌝ }
 {
-    let of_blocks = file_faults(file);
+    let of_blocks = block_faults(file);
     if let Admission::Refused(r) = of_blocks {
         return Admission::Refused(r);
     }

@@ -1,14 +1,14 @@
 -- Laws of the view: what it shows are the words of its block.
 -- Assumes nothing.
 use Prim.Native.Nat.{ℕ, _+_, _-_, _*_, _≤_, _<_}
-use mathlib.Core.Path.{_≡_, refl, sym, ap, ap₂, _∙_}
+use mathlib.Core.Path.{_≡_, ap, ap₂, _∙_}
 use mathlib.Core.List.{List}
 use native.Mathlib.Omega.{arith}
 use lib.Dec.{eqb}
-use lib.ListN.{length, take, drop, getD, length-take, length-drop}
+use lib.ListN.{length, getD, length-take, length-drop}
 use lib.Seq.{getD-drop, getD-take}
 use denote.Ref.{now}
-use Rattle.survey.specs.Limits.{blockBytes, contentWords}
+use Rattle.survey.specs.Limits.{blockBytes}
 use Rattle.survey.specs.Words.{word}
 use Rattle.survey.specs.SurveyFile.{blockWord, numberIn}
 use Rattle.views.specs.declared.view.Block.{Block}

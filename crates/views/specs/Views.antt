@@ -1,12 +1,11 @@
 -- The view of a block: "The reader looks at one block at a time through a view that knows its block number and shows its 126 words; the view is
 -- of the lent bytes themselves."
-use Prim.Native.Nat.{ℕ, _+_, _*_, _≤_, _<_}
+use Prim.Native.Nat.{ℕ, _+_, _*_, _≤_}
 use mathlib.Core.Path.{_≡_}
 use mathlib.Core.List.{List}
 use lib.ListN.{length, take, drop}
 use denote.Ref.{now}
 use Rattle.survey.specs.Limits.{blockBytes}
-use Rattle.survey.specs.Words.{word}
 use Rattle.views.specs.declared.view.Block.{Block}
 
 -- block b lies within the file

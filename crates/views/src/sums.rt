@@ -15,6 +15,7 @@ pub struct Sums {
     pub b: u32,
 }
 
+// "a becomes a plus the word, then b becomes b plus the new a"
 fn sums_after(s: Sums, x: u32) -> Sums
     ensures { λ r. ⌜ sumsOf r ≡ sumsAfter (sumsOf s) x ⌝ }
 {
@@ -23,7 +24,8 @@ fn sums_after(s: Sums, x: u32) -> Sums
     Sums { a, b }
 }
 
-pub fn block_sums(file: &[u8], b: usize) -> Sums
+// The two sums over the content words of block b.
+fn block_sums(file: &[u8], b: usize) -> Sums
     requires { ⌜ Within (now file) b ⌝ }
     ensures { λ r. ⌜ sumsOf r ≡ sums (blockWord (now (file .entry)) b) contentWords ⌝ }
 {
@@ -37,6 +39,7 @@ pub fn block_sums(file: &[u8], b: usize) -> Sums
     s
 }
 
+// "Both must agree."
 pub fn check_agrees(file: &[u8], b: usize) -> bool
     requires { ⌜ Within (now file) b ⌝ }
     ensures { λ r. ⌜ Tells (CheckAgrees (now (file .entry)) b) r ⌝ }

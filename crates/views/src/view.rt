@@ -1,6 +1,6 @@
-// The view of a block: "through a view that knows its block number and shows its 126 words; the view is of the lent bytes themselves".
-// No function over a struct that holds a reference is covered by the borrow checker, so these are few and thin, each proved by hand over a
-// covered function on plain slices. All other code reads a file's blocks by `block_word`, `block_check` and
+// The view of a block: "The reader looks at one block at a time through a view that knows its block number and shows its 126 words; the view is
+// of the lent bytes themselves." No function over a struct that holds a reference is covered by the borrow checker, so these are few and thin,
+// each proved by hand over a covered function on a slice. All other code reads a file's blocks by `block_word`, `block_check` and
 // `block_numbered`, whose parameters are plain.
 use words::word_at;
 ghost use mathlib.Core.Path.{_≡_};
@@ -35,7 +35,7 @@ fn word_of(bytes: &[u8], w: usize) -> u32
     word_at(bytes, 4 * w)
 }
 
-// "126 words of content and two of check": check word 0 or 1.
+// "126 words of content and two of check": check word 0 or 1 of a block's bytes.
 fn check_word_of(bytes: &[u8], which: usize) -> u32
     requires { ⌜ 4 * (contentWords + which) + 4 ≤ length (now bytes) ⌝ }
     ensures { λ r. ⌜ r ≡ word (now (bytes .entry)) (4 * (contentWords + which)) ⌝ }
@@ -43,7 +43,7 @@ fn check_word_of(bytes: &[u8], which: usize) -> u32
     word_of(bytes, 126 + which)
 }
 
-// Whether word 0 is this number.
+// Whether word 0 of a block's bytes is this number.
 fn says_number(bytes: &[u8], number: usize) -> bool
     requires { ⌜ 4 ≤ length (now bytes) ⌝ }
     ensures { λ r. ⌜ r ≡ eqb (word (now (bytes .entry)) 0) number ⌝ }
@@ -52,6 +52,7 @@ fn says_number(bytes: &[u8], number: usize) -> bool
     first as usize == number
 }
 
+// The view of block b: nothing is copied.
 fn block_at<'a>(file: &'a [u8], b: usize) -> Block<'a>
     requires { ⌜ Within (now file) b ⌝ }
     ensures { λ r. ⌜ Views r (now (file .entry)) b ⌝ }
@@ -62,6 +63,7 @@ fn block_at<'a>(file: &'a [u8], b: usize) -> Block<'a>
     }
 }
 
+// "shows its 126 words"
 fn shown<'a>(block: Block<'a>, w: usize) -> u32
     requires { ⌜ (length (now (block .bytes)) ≡ blockBytes) × (w < contentWords) ⌝ }
     ensures { λ r. ⌜ r ≡ word (now (block .entry .bytes)) (4 * w) ⌝ }
@@ -69,6 +71,7 @@ fn shown<'a>(block: Block<'a>, w: usize) -> u32
     word_of(block.bytes, w)
 }
 
+// The check words are no content, so they are shown apart.
 fn check_word<'a>(block: Block<'a>, which: usize) -> u32
     requires { ⌜ (length (now (block .bytes)) ≡ blockBytes) × (which < 2) ⌝ }
     ensures { λ r. ⌜ r ≡ word (now (block .entry .bytes)) (4 * (contentWords + which)) ⌝ }
@@ -84,6 +87,7 @@ fn numbered<'a>(block: Block<'a>) -> bool
     says_number(block.bytes, block.number)
 }
 
+// Word w of block b, through its view.
 pub fn block_word(file: &[u8], b: usize, w: usize) -> u32
     requires { ⌜ Within (now file) b × (w < contentWords) ⌝ }
     ensures { λ r. ⌜ r ≡ blockWord (now (file .entry)) b w ⌝ }
@@ -91,6 +95,7 @@ pub fn block_word(file: &[u8], b: usize, w: usize) -> u32
     shown(block_at(file, b), w)
 }
 
+// Check word 0 or 1 of block b, through its view.
 pub fn block_check(file: &[u8], b: usize, which: usize) -> u32
     requires { ⌜ Within (now file) b × (which < 2) ⌝ }
     ensures { λ r. ⌜ r ≡ blockWord (now (file .entry)) b (contentWords + which) ⌝ }
@@ -98,6 +103,7 @@ pub fn block_check(file: &[u8], b: usize, which: usize) -> u32
     check_word(block_at(file, b), which)
 }
 
+// Whether word 0 of block b is b, through its view.
 pub fn block_numbered(file: &[u8], b: usize) -> bool
     requires { ⌜ Within (now file) b ⌝ }
     ensures { λ r. ⌜ r ≡ eqb (numberIn (now (file .entry)) b) b ⌝ }

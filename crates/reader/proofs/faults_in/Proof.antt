@@ -1,3 +1,4 @@
+-- `reader::faults_in` meets its contract. A file whose blocks have no fault has room for its entries, and is then admitted or not. Assumes nothing.
 use Rattle.reader.proofs.FileLaws.{clear-fits, header-within, groups-fit, links-fit, then-survey}
 use Rattle.blocks.specs.FileFaults.{blockFaults}
 use Rattle.survey.proofs.Verdicts.{early, fine-clear}
@@ -7,54 +8,39 @@ use denote.Ref.{now}
 use borrow.Author.Needs.{needs}
 use Rattle.reader.proofs.faults_in.Statement.{statement}
 use Rattle.reader.proofs.faults_in.Tie as tie
-use Rattle.reader.proofs.faults_in.Reads as reads
-use Rattle.reader.proofs.faults_in.Lts as lts
-use Rattle.admit.proofs.admit.Reads as admit-reads
-use Rattle.blocks.proofs.file.file_faults.Reads as file-faults-reads
-use Rattle.blocks.proofs.tests.e_in.Reads as e-in-reads
-use Rattle.blocks.proofs.tests.n_in.Reads as n-in-reads
-use Rattle.reader.proofs.link_base.Reads as link-base-reads
 
--- src/lib.rt:52:9
-file-faults-requires : tie.Need-file-faults-requires
-file-faults-requires c κs = search needs
+block-faults-requires : tie.Need-block-faults-requires
+block-faults-requires c κs = search needs
 
--- src/lib.rt:53:31
 enum-known-of-blocks : tie.Need-enum-known-of-blocks
 enum-known-of-blocks c = search needs
 
--- src/lib.rt:54:9
 returns : tie.Need-returns
-returns c = early (blockFaults (now ((c .before .before .before .before .before) .args .file))) (surveyFaults (surveyIn (now ((c .before .before .before .before .before) .args .file)))) (rw ((c .before) .of-blocks .given .1) at ((c .before .before .before) .file-faults .ensures))
+returns c = early (blockFaults (now ((c .before .before .before .before .before) .args .file))) (surveyFaults (surveyIn (now ((c .before .before .before .before .before) .args .file)))) (rw ((c .before) .of-blocks .given .1) at ((c .before .before .before) .block-faults .ensures))
 
 enum-told : tie.Need-enum-told
 enum-told c = search needs
 
--- src/lib.rt:56:9
 n-in-requires : tie.Need-n-in-requires
-n-in-requires c κs = header-within (clear-fits (now ((c .before .before .before .before) .args .file)) (fine-clear (blockFaults (now ((c .before .before .before .before) .args .file))) (rw (c .enum-told .given .1) at ((c .before .before) .file-faults .ensures))))
+n-in-requires c κs = header-within (clear-fits (now ((c .before .before .before .before) .args .file)) (fine-clear (blockFaults (now ((c .before .before .before .before) .args .file))) (rw (c .enum-told .given .1) at ((c .before .before) .block-faults .ensures))))
 
--- src/lib.rt:57:9
 e-in-requires : tie.Need-e-in-requires
-e-in-requires c κs = header-within (clear-fits (now ((c .before .before .before .before .before) .args .file)) (fine-clear (blockFaults (now ((c .before .before .before .before .before) .args .file))) (rw ((c .before) .enum-told .given .1) at ((c .before .before .before) .file-faults .ensures))))
+e-in-requires c κs = header-within (clear-fits (now ((c .before .before .before .before .before) .args .file)) (fine-clear (blockFaults (now ((c .before .before .before .before .before) .args .file))) (rw ((c .before) .enum-told .given .1) at ((c .before .before .before) .block-faults .ensures))))
 
--- src/lib.rt:58:9
 link-base-requires : tie.Need-link-base-requires
 link-base-requires c κs = search needs
 
--- src/lib.rt:59:5
 admit-requires : tie.Need-admit-requires
-admit-requires c κs = (groups-fit (now ((c .before .before .before .before .before .before .before) .args .file)) (fine-clear (blockFaults (now ((c .before .before .before .before .before .before .before) .args .file))) (rw ((c .before .before .before) .enum-told .given .1) at ((c .before .before .before .before .before) .file-faults .ensures))) ((c .before .before) .n-in .ensures .0) ((c .before) .e-in .ensures .0) (c .link-base .ensures), links-fit (now ((c .before .before .before .before .before .before .before) .args .file)) (fine-clear (blockFaults (now ((c .before .before .before .before .before .before .before) .args .file))) (rw ((c .before .before .before) .enum-told .given .1) at ((c .before .before .before .before .before) .file-faults .ensures))) ((c .before .before) .n-in .ensures .0) ((c .before) .e-in .ensures .0) (c .link-base .ensures))
+admit-requires c κs = (groups-fit (now ((c .before .before .before .before .before .before .before) .args .file)) (fine-clear (blockFaults (now ((c .before .before .before .before .before .before .before) .args .file))) (rw ((c .before .before .before) .enum-told .given .1) at ((c .before .before .before .before .before) .block-faults .ensures))) ((c .before .before) .n-in .ensures .0) ((c .before) .e-in .ensures .0) (c .link-base .ensures), links-fit (now ((c .before .before .before .before .before .before .before) .args .file)) (fine-clear (blockFaults (now ((c .before .before .before .before .before .before .before) .args .file))) (rw ((c .before .before .before) .enum-told .given .1) at ((c .before .before .before .before .before) .block-faults .ensures))) ((c .before .before) .n-in .ensures .0) ((c .before) .e-in .ensures .0) (c .link-base .ensures))
 
--- src/lib.rt:49:1
 returns-2 : tie.Need-returns-2
-returns-2 c = then-survey (now ((c .before .before .before .before .before .before .before .before) .args .file)) (fine-clear (blockFaults (now ((c .before .before .before .before .before .before .before .before) .args .file))) (rw ((c .before .before .before .before) .enum-told .given .1) at ((c .before .before .before .before .before .before) .file-faults .ensures))) ((c .before .before .before) .n-in .ensures .0) ((c .before .before) .e-in .ensures .0) ((c .before) .link-base .ensures) (c .admit .ensures)
+returns-2 c = then-survey (now ((c .before .before .before .before .before .before .before .before) .args .file)) (fine-clear (blockFaults (now ((c .before .before .before .before .before .before .before .before) .args .file))) (rw ((c .before .before .before .before) .enum-told .given .1) at ((c .before .before .before .before .before .before) .block-faults .ensures))) ((c .before .before .before) .n-in .ensures .0) ((c .before .before) .e-in .ensures .0) ((c .before) .link-base .ensures) (c .admit .ensures)
 
 pub faults-in-spec : {M : Type 1} → statement M
 faults-in-spec =
     tie.close
     (tie.spec
-    file-faults-requires
+    block-faults-requires
     enum-known-of-blocks
     returns
     enum-told

@@ -5,29 +5,21 @@ use Rattle.survey.specs.Faults.{OneShort}
 use borrow.Author.Needs.{needs}
 use Rattle.reader.proofs.lists_short.Statement.{statement}
 use Rattle.reader.proofs.lists_short.Tie as tie
-use Rattle.reader.proofs.lists_short.Reads as reads
-use Rattle.reader.proofs.lists_short.Lts as lts
-use Rattle.entries.proofs.whole_entries.Reads as whole-entries-reads
 
--- src/lib.rt:23:8
 whole-entries-requires : tie.Need-whole-entries-requires
 whole-entries-requires c κs = search needs
 
--- src/lib.rt:24:9
 returns : tie.Need-returns
 unfolding OneShort
 returns c = inl (omega (arith, c .before .whole-entries .ensures))
 
--- src/lib.rt:26:8
 whole-entries-requires-2 : tie.Need-whole-entries-requires-2
 whole-entries-requires-2 c κs = search needs
 
--- src/lib.rt:27:9
 returns-2 : tie.Need-returns-2
 unfolding OneShort
 returns-2 c = inr (inl (omega (arith, c .before .whole-entries2 .ensures)))
 
--- src/lib.rt:20:1
 returns-3 : tie.Need-returns-3
 unfolding OneShort
 returns-3 c =

@@ -4,21 +4,15 @@ use mathlib.Core.Logic.{inl}
 use borrow.Author.Needs.{needs}
 use Rattle.admit.proofs.counts.above_limit.Statement.{statement}
 use Rattle.admit.proofs.counts.above_limit.Tie as tie
-use Rattle.admit.proofs.counts.above_limit.Reads as reads
-use Rattle.admit.proofs.counts.above_limit.Lts as lts
-use Rattle.admit.proofs.lists.group_of.Reads as group-of-reads
 
--- src/counts.rt:15:9
 group-of-requires : tie.Need-group-of-requires
 group-of-requires c κs = search needs
 
--- src/counts.rt:17:9
 returns : tie.Need-returns
 returns c = inl (omega arith)
 
--- src/counts.rt:11:1
 returns-2 : tie.Need-returns-2
-returns-2 c = second-count ((c .before .before .before) .group-of .ensures) ((c .before) .if1 .left)
+returns-2 c = second-count (c .before .before .before .group-of .ensures) (c .before .if1 .left)
 
 pub above-limit-spec : {M : Type 1} → statement M
 above-limit-spec = tie.close (tie.spec group-of-requires returns returns-2)

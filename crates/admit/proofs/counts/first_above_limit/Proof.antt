@@ -2,12 +2,9 @@ use Rattle.admit.proofs.TestLaws.{Before, before-first, before-next, fo
 use Rattle.admit.specs.Lists.{groupsIn}
 use Rattle.survey.specs.Faults.{badCount}
 use native.Mathlib.Omega.{arith}
-use Prim.Native.Nat.{_≤_, _-_}
+use Prim.Native.Nat.{_-_}
 use Rattle.admit.proofs.counts.first_above_limit.Statement.{statement}
 use Rattle.admit.proofs.counts.first_above_limit.Tie as tie
-use Rattle.admit.proofs.counts.first_above_limit.Reads as reads
-use Rattle.admit.proofs.counts.first_above_limit.Lts as lts
-use Rattle.admit.proofs.counts.above_limit.Reads as above-limit-reads
 
 abbrev Inv-loop : tie.InvT-loop
 Inv-loop b list g₀ g = Before (badCount (groupsIn b list)) g
@@ -15,33 +12,26 @@ Inv-loop b list g₀ g = Before (badCount (groupsIn b list)) g
 abbrev μ-loop : tie.MeasureT-loop
 μ-loop b list g₀ g = list .n - g
 
--- src/counts.rt:28:5
 loop-holds : tie.Need-loop-holds Inv-loop μ-loop
 loop-holds c = before-first
 
--- src/counts.rt:29:12
 above-limit-requires : tie.Need-above-limit-requires Inv-loop μ-loop
-above-limit-requires c κs = ((c .before .before .before .before) .pre, c .if1 .taken)
+above-limit-requires c κs = (c .before .before .before .before .pre, c .if1 .taken)
 
--- src/counts.rt:30:13
 returns : tie.Need-returns Inv-loop μ-loop
-returns c = found-here ((c .before .before) .if1 .taken) ((c .before .before .before .before) .loop .inv) (rw (c .if2 .taken) at ((c .before) .above-limit .ensures))
+returns c = found-here (c .before .before .if1 .taken) (c .before .before .before .before .loop .inv) (rw (c .if2 .taken) at (c .before .above-limit .ensures))
 
--- src/counts.rt:32:9
 add-g : tie.Need-add-g Inv-loop μ-loop
 add-g c = omega arith
 
--- src/counts.rt:28:5
 loop-less : tie.Need-loop-less Inv-loop μ-loop
 loop-less c = omega arith
 
--- src/counts.rt:28:5
 loop-again : tie.Need-loop-again Inv-loop μ-loop
-loop-again c = before-next ((c .before .before .before .before) .loop .inv) (rw (c .if2 .left) at ((c .before) .above-limit .ensures))
+loop-again c = before-next (c .before .before .before .before .loop .inv) (rw (c .if2 .left) at (c .before .above-limit .ensures))
 
--- src/counts.rt:23:1
 returns-2 : tie.Need-returns-2 Inv-loop μ-loop
-returns-2 c = found-none (c .if1 .left) ((c .before .before) .loop .inv)
+returns-2 c = found-none (c .if1 .left) (c .before .before .loop .inv)
 
 pub first-above-limit-spec : {M : Type 1} → statement M
 first-above-limit-spec =

@@ -1,14 +1,11 @@
 use Rattle.admit.specs.Lists.{groupsIn}
 use Rattle.survey.specs.Sets.{deadOf}
-use borrow.Author.Count.{below-none, below-more}
+use borrow.Author.Count.{below-more}
 use mathlib.Core.Path.{_≡_}
 use native.Mathlib.Omega.{arith}
 use Prim.Native.Nat.{ℕ, _<_, _-_}
 use Rattle.admit.proofs.counts.none_dead.Statement.{statement}
 use Rattle.admit.proofs.counts.none_dead.Tie as tie
-use Rattle.admit.proofs.counts.none_dead.Reads as reads
-use Rattle.admit.proofs.counts.none_dead.Lts as lts
-use Rattle.admit.proofs.lists.group_of.Reads as group-of-reads
 
 abbrev Inv-loop : tie.InvT-loop
 Inv-loop b list g₀ g = (j : ℕ) → j < g → deadOf (groupsIn b list) j ≡ 0
@@ -16,33 +13,26 @@ Inv-loop b list g₀ g = (j : ℕ) → j < g → deadOf (groupsIn b list) j ≡ 
 abbrev μ-loop : tie.MeasureT-loop
 μ-loop b list g₀ g = list .n - g
 
--- src/counts.rt:43:5
 loop-holds : tie.Need-loop-holds Inv-loop μ-loop
 loop-holds c = λ j l. absurd (omega arith)
 
--- src/counts.rt:44:13
 group-of-requires : tie.Need-group-of-requires Inv-loop μ-loop
-group-of-requires c κs = ((c .before .before .before .before) .pre, c .if1 .taken)
+group-of-requires c κs = (c .before .before .before .before .pre, c .if1 .taken)
 
--- src/counts.rt:46:13
 returns : tie.Need-returns Inv-loop μ-loop
-returns c = λ all. omega (arith, all ((c .before .before .before .before .before) .loop .g) ((c .before .before .before) .if1 .taken))
+returns c = λ all. omega (arith, all (c .before .before .before .before .before .loop .g) (c .before .before .before .if1 .taken))
 
--- src/counts.rt:48:9
 add-g : tie.Need-add-g Inv-loop μ-loop
 add-g c = omega arith
 
--- src/counts.rt:43:5
 loop-less : tie.Need-loop-less Inv-loop μ-loop
 loop-less c = omega arith
 
--- src/counts.rt:43:5
 loop-again : tie.Need-loop-again Inv-loop μ-loop
-loop-again c = below-more (λ j. deadOf (groupsIn _ ((c .before .before .before .before .before .before .before) .args .list)) j ≡ 0) _ ((c .before .before .before .before .before) .loop .inv) (omega arith)
+loop-again c = below-more (λ j. deadOf (groupsIn _ (c .before .before .before .before .before .before .before .args .list)) j ≡ 0) _ (c .before .before .before .before .before .loop .inv) (omega arith)
 
--- src/counts.rt:38:1
 returns-2 : tie.Need-returns-2 Inv-loop μ-loop
-returns-2 c = λ j l. (c .before .before) .loop .inv j (omega arith)
+returns-2 c = λ j l. c .before .before .loop .inv j (omega arith)
 
 pub none-dead-spec : {M : Type 1} → statement M
 none-dead-spec =

@@ -4,21 +4,15 @@ use mathlib.Core.Logic.{inl}
 use borrow.Author.Needs.{needs}
 use Rattle.admit.proofs.links.end_outside.Statement.{statement}
 use Rattle.admit.proofs.links.end_outside.Tie as tie
-use Rattle.admit.proofs.links.end_outside.Reads as reads
-use Rattle.admit.proofs.links.end_outside.Lts as lts
-use Rattle.cycles.proofs.lists.link_of.Reads as link-of-reads
 
--- src/links.rt:14:9
 link-of-requires : tie.Need-link-of-requires
 link-of-requires c κs = search needs
 
--- src/links.rt:16:9
 returns : tie.Need-returns
 returns c = inl (omega arith)
 
--- src/links.rt:10:1
 returns-2 : tie.Need-returns-2
-returns-2 c = second-end _ ((c .before .before .before .before .before) .link-of .ensures) ((c .before .before) .if1 .left)
+returns-2 c = second-end _ (c .before .before .before .before .before .link-of .ensures) (c .before .before .if1 .left)
 
 pub end-outside-spec : {M : Type 1} → statement M
 end-outside-spec = tie.close (tie.spec link-of-requires returns returns-2)

@@ -2,12 +2,9 @@ use Rattle.admit.proofs.TestLaws.{Before, before-first, before-next, fo
 use Rattle.cycles.specs.Lists.{linksIn}
 use Rattle.survey.specs.Faults.{badEnd}
 use native.Mathlib.Omega.{arith}
-use Prim.Native.Nat.{_≤_, _-_}
+use Prim.Native.Nat.{_-_}
 use Rattle.admit.proofs.links.first_outside.Statement.{statement}
 use Rattle.admit.proofs.links.first_outside.Tie as tie
-use Rattle.admit.proofs.links.first_outside.Reads as reads
-use Rattle.admit.proofs.links.first_outside.Lts as lts
-use Rattle.admit.proofs.links.end_outside.Reads as end-outside-reads
 
 abbrev Inv-loop : tie.InvT-loop
 Inv-loop b list k₀ k = Before (badEnd (linksIn b list)) k
@@ -15,33 +12,26 @@ Inv-loop b list k₀ k = Before (badEnd (linksIn b list)) k
 abbrev μ-loop : tie.MeasureT-loop
 μ-loop b list k₀ k = list .e - k
 
--- src/links.rt:27:5
 loop-holds : tie.Need-loop-holds Inv-loop μ-loop
 loop-holds c = before-first
 
--- src/links.rt:28:12
 end-outside-requires : tie.Need-end-outside-requires Inv-loop μ-loop
-end-outside-requires c κs = ((c .before .before .before .before) .pre, c .if1 .taken)
+end-outside-requires c κs = (c .before .before .before .before .pre, c .if1 .taken)
 
--- src/links.rt:29:13
 returns : tie.Need-returns Inv-loop μ-loop
-returns c = found-here ((c .before .before) .if1 .taken) ((c .before .before .before .before) .loop .inv) (rw (c .if2 .taken) at ((c .before) .end-outside .ensures))
+returns c = found-here (c .before .before .if1 .taken) (c .before .before .before .before .loop .inv) (rw (c .if2 .taken) at (c .before .end-outside .ensures))
 
--- src/links.rt:31:9
 add-k : tie.Need-add-k Inv-loop μ-loop
 add-k c = omega arith
 
--- src/links.rt:27:5
 loop-less : tie.Need-loop-less Inv-loop μ-loop
 loop-less c = omega arith
 
--- src/links.rt:27:5
 loop-again : tie.Need-loop-again Inv-loop μ-loop
-loop-again c = before-next ((c .before .before .before .before) .loop .inv) (rw (c .if2 .left) at ((c .before) .end-outside .ensures))
+loop-again c = before-next (c .before .before .before .before .loop .inv) (rw (c .if2 .left) at (c .before .end-outside .ensures))
 
--- src/links.rt:22:1
 returns-2 : tie.Need-returns-2 Inv-loop μ-loop
-returns-2 c = found-none (c .if1 .left) ((c .before .before) .loop .inv)
+returns-2 c = found-none (c .if1 .left) (c .before .before .loop .inv)
 
 pub first-outside-spec : {M : Type 1} → statement M
 first-outside-spec =

@@ -6,33 +6,24 @@ use native.Mathlib.Omega.{arith}
 use borrow.Author.Needs.{needs}
 use Rattle.admit.proofs.links.not_above.Statement.{statement}
 use Rattle.admit.proofs.links.not_above.Tie as tie
-use Rattle.admit.proofs.links.not_above.Reads as reads
-use Rattle.admit.proofs.links.not_above.Lts as lts
-use Rattle.cycles.proofs.lists.link_of.Reads as link-of-reads
 
--- src/links.rt:42:9
 returns : tie.Need-returns
 returns c = search needs
 
--- src/links.rt:44:33
 sub-link-of : tie.Need-sub-link-of
 sub-link-of c = search needs
 
--- src/links.rt:44:9
 link-of-requires : tie.Need-link-of-requires
 link-of-requires c κs = search needs
 
--- src/links.rt:45:9
 link-of-requires-2 : tie.Need-link-of-requires-2
 link-of-requires-2 c κs = search needs
 
--- src/links.rt:37:1
 returns-2 : tie.Need-returns-2
-returns-2 c = rw ((c .before .before .before .before .before .before) .link-of .ensures .to, (c .before .before .before .before .before) .link-of2 .ensures .to) (order-by-to (linkIn (now ((c .before .before .before .before .before .before .before .before .before) .args .b)) ((c .before .before .before .before .before .before .before .before .before) .args .list) ((c .before .before .before .before .before .before .before .before .before) .args .k - 1)) (linkIn (now ((c .before .before .before .before .before .before .before .before .before) .args .b)) ((c .before .before .before .before .before .before .before .before .before) .args .list) ((c .before .before .before .before .before .before .before .before .before) .args .k)) (omega arith) (cc))
+returns-2 c = rw (c .before .before .before .before .before .before .link-of .ensures .to, c .before .before .before .before .before .link-of2 .ensures .to) (order-by-to (linkIn (now (c .before .before .before .before .before .before .before .before .before .args .b)) (c .before .before .before .before .before .before .before .before .before .args .list) (c .before .before .before .before .before .before .before .before .before .args .k - 1)) (linkIn (now (c .before .before .before .before .before .before .before .before .before .args .b)) (c .before .before .before .before .before .before .before .before .before .args .list) (c .before .before .before .before .before .before .before .before .before .args .k)) (omega arith) (cc))
 
--- src/links.rt:37:1
 returns-3 : tie.Need-returns-3
-returns-3 c = rw ((c .before .before .before .before .before .before) .link-of .ensures .from, (c .before .before .before .before .before) .link-of2 .ensures .from) (order-by-from (linkIn (now ((c .before .before .before .before .before .before .before .before .before) .args .b)) ((c .before .before .before .before .before .before .before .before .before) .args .list) ((c .before .before .before .before .before .before .before .before .before) .args .k - 1)) (linkIn (now ((c .before .before .before .before .before .before .before .before .before) .args .b)) ((c .before .before .before .before .before .before .before .before .before) .args .list) ((c .before .before .before .before .before .before .before .before .before) .args .k)) (omega arith) (λ z. (c .before .before) .if2 .left (cc z)))
+returns-3 c = rw (c .before .before .before .before .before .before .link-of .ensures .from, c .before .before .before .before .before .link-of2 .ensures .from) (order-by-from (linkIn (now (c .before .before .before .before .before .before .before .before .before .args .b)) (c .before .before .before .before .before .before .before .before .before .args .list) (c .before .before .before .before .before .before .before .before .before .args .k - 1)) (linkIn (now (c .before .before .before .before .before .before .before .before .before .args .b)) (c .before .before .before .before .before .before .before .before .before .args .list) (c .before .before .before .before .before .before .before .before .before .args .k)) (omega arith) (λ z. c .before .before .if2 .left (cc z)))
 
 pub not-above-spec : {M : Type 1} → statement M
 not-above-spec =

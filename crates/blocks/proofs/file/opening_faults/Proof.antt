@@ -3,8 +3,6 @@ use Rattle.blocks.proofs.LookLaws.{told, told-not}
 use borrow.Author.Tests.{not-true, not-false}
 use Rattle.survey.proofs.Verdicts.{past, none-left}
 use Rattle.survey.specs.Faults.{badCheck, badHeader}
-use Rattle.survey.specs.SurveyFile.{numberIn, kindIn}
-use mathlib.Core.Path.{_≡_}
 use borrow.Author.Needs.{needs}
 use Rattle.blocks.proofs.file.opening_faults.Statement.{statement}
 use Rattle.blocks.proofs.file.opening_faults.Tie as tie

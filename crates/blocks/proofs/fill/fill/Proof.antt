@@ -1,12 +1,9 @@
 use Rattle.blocks.proofs.CopyLaws.{filled-none, filled-more}
-use Rattle.blocks.specs.Copies.{Copied}
 use Rattle.entries.specs.Entries.{stand}
 use Rattle.survey.specs.Promises.{Filled}
-use Rattle.survey.specs.Limits.{entryBytes}
-use borrow.Author.Needs.{needs}
 use mathlib.Core.Path.{subst}
 use native.Mathlib.Omega.{arith}
-use Prim.Native.Nat.{_≤_, _-_, _*_}
+use Prim.Native.Nat.{_≤_, _-_}
 use Rattle.blocks.proofs.fill.fill.Statement.{statement}
 use Rattle.blocks.proofs.fill.fill.Tie as tie
 use Rattle.blocks.proofs.fill.fill.Reads as reads

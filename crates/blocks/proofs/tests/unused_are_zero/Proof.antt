@@ -1,8 +1,7 @@
 use borrow.Author.Count.{below-more}
 use Rattle.survey.specs.SurveyFile.{blockWord, usedWords}
-use borrow.Author.Needs.{needs}
 use native.Mathlib.Omega.{arith}
-use mathlib.Core.Path.{_≡_, refl, sym, ap, ap₂, _∙_}
+use mathlib.Core.Path.{_≡_, sym, _∙_}
 use Prim.Native.Nat.{ℕ, _≤_, _<_, _-_}
 use Rattle.blocks.proofs.tests.unused_are_zero.Statement.{statement}
 use Rattle.blocks.proofs.tests.unused_are_zero.Tie as tie

@@ -4,22 +4,16 @@ use mathlib.Core.Path.{refl}
 use borrow.Author.Needs.{needs}
 use Rattle.cycles.proofs.halves.high_at.Statement.{statement}
 use Rattle.cycles.proofs.halves.high_at.Tie as tie
-use Rattle.cycles.proofs.halves.high_at.Reads as reads
-use Rattle.cycles.proofs.halves.high_at.Lts as lts
 
--- src/halves.rt:21:6
 mul-result : tie.Need-mul-result
 mul-result c = search needs
 
--- src/halves.rt:21:6
 shared-slice-read-result : tie.Need-shared-slice-read-result
 shared-slice-read-result c = search needs
 
--- src/halves.rt:21:5
 cast-result : tie.Need-cast-result
-cast-result c = omega (arith, c .shared-slice-known .given ((c .before) .args .g))
+cast-result c = omega (arith, c .shared-slice-known .given (c .before .args .g))
 
--- src/halves.rt:17:1
 returns : tie.Need-returns
 unfolding highOf
 returns c = refl

@@ -1,19 +1,13 @@
 use Rattle.cycles.proofs.ListLaws.{link-in}
 use denote.Ref.{now}
-use native.Mathlib.Omega.{arith}
 use Rattle.cycles.proofs.lists.link_of.Statement.{statement}
 use Rattle.cycles.proofs.lists.link_of.Tie as tie
-use Rattle.cycles.proofs.lists.link_of.Reads as reads
-use Rattle.cycles.proofs.lists.link_of.Lts as lts
-use Rattle.entries.proofs.link_at.Reads as link-at-reads
 
--- src/lists.rt:40:5
 link-at-requires : tie.Need-link-at-requires
-link-at-requires c κs = (c .before) .pre .0 .fit _ ((c .before) .pre .1)
+link-at-requires c κs = c .before .pre .0 .fit _ (c .before .pre .1)
 
--- src/lists.rt:34:1
 returns : tie.Need-returns
-returns c = rw (link-in (now ((c .before .before) .args .b)) ((c .before .before) .args .list) _ ((c .before .before) .pre .1)) (c .link-at .ensures)
+returns c = rw (link-in (now (c .before .before .args .b)) (c .before .before .args .list) _ (c .before .before .pre .1)) (c .link-at .ensures)
 
 pub link-of-spec : {M : Type 1} → statement M
 link-of-spec = tie.close (tie.spec link-at-requires returns)

@@ -3,7 +3,7 @@ use Rattle.views.specs.Sums.{sumsOf}
 use Rattle.survey.specs.SurveyFile.{blockWord, sums, sumsAfter}
 use borrow.Author.Needs.{needs}
 use native.Mathlib.Omega.{arith}
-use mathlib.Core.Path.{_≡_, refl, sym, ap, ap₂, _∙_}
+use mathlib.Core.Path.{_≡_, sym, ap, ap₂, _∙_}
 use Prim.Native.Nat.{_≤_, _-_}
 use Rattle.views.proofs.sums.block_sums.Statement.{statement}
 use Rattle.views.proofs.sums.block_sums.Tie as tie

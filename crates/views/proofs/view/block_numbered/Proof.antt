@@ -3,7 +3,7 @@
 -- The machine value that `block_at` returns is stored and passed on as it is. In a local of a body MIR erases the lifetime of the struct's type, so the value is
 -- shown to have the type at `erased`: what the struct owns does not say the lifetime's name.
 -- Assumes nothing.
-use mathlib.Core.Path.{_≡_, refl, ap, _∙_}
+use mathlib.Core.Path.{_≡_, refl, _∙_}
 use Prim.Native.Nat.{ℕ, _<_, _^_}
 use mathlib.Core.Bool.{Bool}
 use lib.Dec.{eqb}

@@ -1,4 +1,8 @@
-use Prim.Native.Nat.{_*_}
+use Prim.Native.Nat.{ℕ, _*_}
+use mathlib.Core.Path.{ap}
+use denote.Ref.{now}
+use lib.ListN.{take, drop}
+use Rattle.survey.specs.Limits.{blockBytes}
 use borrow.Author.Needs.{needs}
 use Rattle.views.specs.Views.{blockOf}
 use Rattle.views.proofs.ViewLaws.{part-size}
@@ -30,7 +34,8 @@ part-result-end c = search needs
 -- src/view.rt:19:1
 returns : tie.Need-returns
 unfolding blockOf
-returns c = rw (part-size (512 * c .before .args .b))
+returns c =
+    ap (λ (size : ℕ). take size (drop (blockBytes * c .before .args .b) (now (c .before .args .file)))) (part-size (blockBytes * c .before .args .b))
 
 pub bytes-of-spec : {M : Type 1} → statement M
 bytes-of-spec =

@@ -2,10 +2,10 @@ use Rattle.blocks.proofs.ChainLaws.{stops, goes-on, opened-header}
 use Rattle.blocks.specs.FileFaults.{openingFaults, layoutFaults}
 use Rattle.survey.proofs.Verdicts.{afterwards}
 use borrow.Author.Needs.{needs}
-use Rattle.blocks.proofs.file.file_faults.Statement.{statement}
-use Rattle.blocks.proofs.file.file_faults.Tie as tie
-use Rattle.blocks.proofs.file.file_faults.Reads as reads
-use Rattle.blocks.proofs.file.file_faults.Lts as lts
+use Rattle.blocks.proofs.file.block_faults.Statement.{statement}
+use Rattle.blocks.proofs.file.block_faults.Tie as tie
+use Rattle.blocks.proofs.file.block_faults.Reads as reads
+use Rattle.blocks.proofs.file.block_faults.Lts as lts
 use Rattle.blocks.proofs.file.layout_faults.Reads as layout-faults-reads
 use Rattle.blocks.proofs.file.opening_faults.Reads as opening-faults-reads
 
@@ -33,8 +33,8 @@ returns c = stops (openingFaults ((c .before .before .before .before .before) .a
 returns-2 : tie.Need-returns-2
 returns-2 c = afterwards (openingFaults ((c .before .before .before .before .before) .args .file .now)) (goes-on (openingFaults ((c .before .before .before .before .before) .args .file .now)) (layoutFaults ((c .before .before .before .before .before) .args .file .now)) ((c .before .before .before) .opening-faults .result) ((c .before) .enum-told .given .1) ((c .before .before .before) .opening-faults .ensures)) (c .layout-faults .ensures)
 
-pub file-faults-spec : {M : Type 1} → statement M
-file-faults-spec =
+pub block-faults-spec : {M : Type 1} → statement M
+block-faults-spec =
     tie.close
     (tie.spec
     opening-faults-requires
