@@ -4,32 +4,22 @@ use Rattle.survey.proofs.Verdicts.{afterwards}
 use borrow.Author.Needs.{needs}
 use Rattle.blocks.proofs.file.block_faults.Statement.{statement}
 use Rattle.blocks.proofs.file.block_faults.Tie as tie
-use Rattle.blocks.proofs.file.block_faults.Reads as reads
-use Rattle.blocks.proofs.file.block_faults.Lts as lts
-use Rattle.blocks.proofs.file.layout_faults.Reads as layout-faults-reads
-use Rattle.blocks.proofs.file.opening_faults.Reads as opening-faults-reads
 
--- src/file.rt:60:9
 opening-faults-requires : tie.Need-opening-faults-requires
 opening-faults-requires c κs = search needs
 
--- src/file.rt:62:28
 enum-known-opening : tie.Need-enum-known-opening
 enum-known-opening c = search needs
 
--- src/file.rt:63:32
 enum-told : tie.Need-enum-told
 enum-told c = search needs
 
--- src/file.rt:63:32
 layout-faults-requires : tie.Need-layout-faults-requires
 layout-faults-requires c κs = opened-header (goes-on (openingFaults ((c .before .before .before .before) .args .file .now)) (layoutFaults ((c .before .before .before .before) .args .file .now)) ((c .before .before) .opening-faults .result) (c .enum-told .given .1) ((c .before .before) .opening-faults .ensures))
 
--- src/file.rt:57:1
 returns : tie.Need-returns
 returns c = stops (openingFaults ((c .before .before .before .before .before) .args .file .now)) (layoutFaults ((c .before .before .before .before .before) .args .file .now)) ((c .before .before .before) .opening-faults .result) ((c .before) .opening .given .1) ((c .before .before .before) .opening-faults .ensures)
 
--- src/file.rt:57:1
 returns-2 : tie.Need-returns-2
 returns-2 c = afterwards (openingFaults ((c .before .before .before .before .before) .args .file .now)) (goes-on (openingFaults ((c .before .before .before .before .before) .args .file .now)) (layoutFaults ((c .before .before .before .before .before) .args .file .now)) ((c .before .before .before) .opening-faults .result) ((c .before) .enum-told .given .1) ((c .before .before .before) .opening-faults .ensures)) (c .layout-faults .ensures)
 

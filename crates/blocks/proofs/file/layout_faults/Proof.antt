@@ -6,88 +6,61 @@ use Rattle.survey.specs.Faults.{badKind, badUnused}
 use borrow.Author.Needs.{needs}
 use Rattle.blocks.proofs.file.layout_faults.Statement.{statement}
 use Rattle.blocks.proofs.file.layout_faults.Tie as tie
-use Rattle.blocks.proofs.file.layout_faults.Reads as reads
-use Rattle.blocks.proofs.file.layout_faults.Lts as lts
-use Rattle.blocks.proofs.searches.first_bad_kind.Reads as first-bad-kind-reads
-use Rattle.blocks.proofs.searches.first_bad_unused.Reads as first-bad-unused-reads
-use Rattle.blocks.proofs.tests.bad_range.Reads as bad-range-reads
-use Rattle.blocks.proofs.tests.blocks_fit.Reads as blocks-fit-reads
-use Rattle.blocks.proofs.tests.e_in.Reads as e-in-reads
-use Rattle.blocks.proofs.tests.n_in.Reads as n-in-reads
-use Rattle.refusals.proofs.refused.Reads as refused-reads
-use Rattle.refusals.proofs.refused_whole.Reads as refused-whole-reads
 
--- src/file.rt:41:18
 n-in-requires : tie.Need-n-in-requires
 n-in-requires c κs = search needs
 
--- src/file.rt:41:30
 e-in-requires : tie.Need-e-in-requires
 e-in-requires c κs = search needs
 
--- src/file.rt:41:8
 bad-range-requires : tie.Need-bad-range-requires
 bad-range-requires c κs = search needs
 
--- src/file.rt:42:35
 refused-whole-requires : tie.Need-refused-whole-requires
 refused-whole-requires c κs = search needs
 
--- src/file.rt:42:9
 returns : tie.Need-returns
 returns c = whole-given (c .refused-whole .ensures) (told ((c .before .before) .bad-range .result) ((c .before) .if1 .taken) (rw ((c .before .before .before .before) .n-in .ensures .0, (c .before .before .before) .e-in .ensures .0) at ((c .before .before) .bad-range .ensures)))
 
--- src/file.rt:44:9
 blocks-fit-requires : tie.Need-blocks-fit-requires
 blocks-fit-requires c κs = search needs
 
--- src/file.rt:45:35
 refused-whole-requires-2 : tie.Need-refused-whole-requires-2
 refused-whole-requires-2 c κs = search needs
 
--- src/file.rt:45:9
 returns-2 : tie.Need-returns-2
 returns-2 c = whole-past (told-not ((c .before .before .before .before) .bad-range .result) ((c .before .before .before) .if1 .left) (rw ((c .before .before .before .before .before .before) .n-in .ensures .0, (c .before .before .before .before .before) .e-in .ensures .0) at ((c .before .before .before .before) .bad-range .ensures))) (whole-given (c .refused-whole2 .ensures) (told-not ((c .before .before) .blocks-fit .result) (not-true _ ((c .before) .if2 .taken)) ((c .before .before) .blocks-fit .ensures)))
 
--- src/file.rt:47:27
 first-bad-kind-requires : tie.Need-first-bad-kind-requires
 first-bad-kind-requires c κs = search needs
 
--- src/file.rt:47:22
 enum-known-b : tie.Need-enum-known-b
 enum-known-b c = search needs
 
--- src/file.rt:48:35
 refused-requires : tie.Need-refused-requires
 refused-requires c κs = search needs
 
--- src/file.rt:48:9
 returns-3 : tie.Need-returns-3
 returns-3 c = whole-past (told-not ((c .before .before .before .before .before .before .before .before) .bad-range .result) ((c .before .before .before .before .before .before .before) .if1 .left) (rw ((c .before .before .before .before .before .before .before .before .before .before) .n-in .ensures .0, (c .before .before .before .before .before .before .before .before .before) .e-in .ensures .0) at ((c .before .before .before .before .before .before .before .before) .bad-range .ensures))) (whole-past (λ d. d (told ((c .before .before .before .before .before .before) .blocks-fit .result) (not-false _ ((c .before .before .before .before .before) .if2 .left)) ((c .before .before .before .before .before .before) .blocks-fit .ensures))) (among-given _ _ (badKind ((c .before .before .before .before .before .before .before .before .before .before .before .before) .args .file .now) .at) (c .refused .ensures) (found-at ((c .before .before .before .before) .first-bad-kind .result) ((c .before .before) .b .given .1) ((c .before .before .before .before) .first-bad-kind .ensures))))
 
 enum-told : tie.Need-enum-told
 enum-told c = search needs
 
--- src/file.rt:50:27
 first-bad-unused-requires : tie.Need-first-bad-unused-requires
 first-bad-unused-requires c κs = search needs
 
--- src/file.rt:50:22
 enum-known-b-2 : tie.Need-enum-known-b-2
 enum-known-b-2 c = search needs
 
--- src/file.rt:51:35
 refused-requires-2 : tie.Need-refused-requires-2
 refused-requires-2 c κs = search needs
 
--- src/file.rt:51:9
 returns-4 : tie.Need-returns-4
 returns-4 c = whole-past (told-not ((c .before .before .before .before .before .before .before .before .before .before .before) .bad-range .result) ((c .before .before .before .before .before .before .before .before .before .before) .if1 .left) (rw ((c .before .before .before .before .before .before .before .before .before .before .before .before .before) .n-in .ensures .0, (c .before .before .before .before .before .before .before .before .before .before .before .before) .e-in .ensures .0) at ((c .before .before .before .before .before .before .before .before .before .before .before) .bad-range .ensures))) (whole-past (λ d. d (told ((c .before .before .before .before .before .before .before .before .before) .blocks-fit .result) (not-false _ ((c .before .before .before .before .before .before .before .before) .if2 .left)) ((c .before .before .before .before .before .before .before .before .before) .blocks-fit .ensures))) (past (found-none ((c .before .before .before .before .before .before .before) .first-bad-kind .result) ((c .before .before .before .before .before) .enum-told .given .1) ((c .before .before .before .before .before .before .before) .first-bad-kind .ensures)) (among-given _ _ (badUnused ((c .before .before .before .before .before .before .before .before .before .before .before .before .before .before .before) .args .file .now) .at) (c .refused2 .ensures) (found-at ((c .before .before .before .before) .first-bad-unused .result) ((c .before .before) .b2 .given .1) ((c .before .before .before .before) .first-bad-unused .ensures)))))
 
 enum-told-2 : tie.Need-enum-told-2
 enum-told-2 c = search needs
 
--- src/file.rt:37:1
 returns-5 : tie.Need-returns-5
 returns-5 c = whole-past (told-not ((c .before .before .before .before .before .before .before .before .before) .bad-range .result) ((c .before .before .before .before .before .before .before .before) .if1 .left) (rw ((c .before .before .before .before .before .before .before .before .before .before .before) .n-in .ensures .0, (c .before .before .before .before .before .before .before .before .before .before) .e-in .ensures .0) at ((c .before .before .before .before .before .before .before .before .before) .bad-range .ensures))) (whole-past (λ d. d (told ((c .before .before .before .before .before .before .before) .blocks-fit .result) (not-false _ ((c .before .before .before .before .before .before) .if2 .left)) ((c .before .before .before .before .before .before .before) .blocks-fit .ensures))) (past (found-none ((c .before .before .before .before .before) .first-bad-kind .result) ((c .before .before .before) .enum-told .given .1) ((c .before .before .before .before .before) .first-bad-kind .ensures)) (past (found-none ((c .before .before) .first-bad-unused .result) (c .enum-told2 .given .1) ((c .before .before) .first-bad-unused .ensures)) none-left)))
 

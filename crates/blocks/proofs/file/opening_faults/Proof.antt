@@ -6,58 +6,40 @@ use Rattle.survey.specs.Faults.{badCheck, badHeader}
 use borrow.Author.Needs.{needs}
 use Rattle.blocks.proofs.file.opening_faults.Statement.{statement}
 use Rattle.blocks.proofs.file.opening_faults.Tie as tie
-use Rattle.blocks.proofs.file.opening_faults.Reads as reads
-use Rattle.blocks.proofs.file.opening_faults.Lts as lts
-use Rattle.blocks.proofs.searches.first_bad_check.Reads as first-bad-check-reads
-use Rattle.blocks.proofs.tests.bad_length.Reads as bad-length-reads
-use Rattle.blocks.proofs.tests.number_and_kind.Reads as number-and-kind-reads
-use Rattle.refusals.proofs.refused.Reads as refused-reads
-use Rattle.refusals.proofs.refused_whole.Reads as refused-whole-reads
 
--- src/file.rt:24:8
 bad-length-requires : tie.Need-bad-length-requires
 bad-length-requires c κs = search needs
 
--- src/file.rt:25:35
 refused-whole-requires : tie.Need-refused-whole-requires
 refused-whole-requires c κs = search needs
 
--- src/file.rt:25:9
 returns : tie.Need-returns
 returns c = whole-given (c .refused-whole .ensures) (told ((c .before .before) .bad-length .result) ((c .before) .if1 .taken) ((c .before .before) .bad-length .ensures))
 
--- src/file.rt:27:27
 first-bad-check-requires : tie.Need-first-bad-check-requires
 first-bad-check-requires c κs = search needs
 
--- src/file.rt:27:22
 enum-known-b : tie.Need-enum-known-b
 enum-known-b c = search needs
 
--- src/file.rt:28:35
 refused-requires : tie.Need-refused-requires
 refused-requires c κs = search needs
 
--- src/file.rt:28:9
 returns-2 : tie.Need-returns-2
 returns-2 c = whole-past (told-not ((c .before .before .before .before .before .before) .bad-length .result) ((c .before .before .before .before .before) .if1 .left) ((c .before .before .before .before .before .before) .bad-length .ensures)) (among-given _ _ (badCheck ((c .before .before .before .before .before .before .before .before) .args .file .now) .at) (c .refused .ensures) (found-at ((c .before .before .before .before) .first-bad-check .result) ((c .before .before) .b .given .1) ((c .before .before .before .before) .first-bad-check .ensures)))
 
 enum-told : tie.Need-enum-told
 enum-told c = search needs
 
--- src/file.rt:30:9
 number-and-kind-requires : tie.Need-number-and-kind-requires
 number-and-kind-requires c κs = has-header (told-not ((c .before .before .before .before) .bad-length .result) ((c .before .before .before) .if1 .left) ((c .before .before .before .before) .bad-length .ensures))
 
--- src/file.rt:31:35
 refused-requires-2 : tie.Need-refused-requires-2
 refused-requires-2 c κs = search needs
 
--- src/file.rt:31:9
 returns-3 : tie.Need-returns-3
 returns-3 c = whole-past (told-not ((c .before .before .before .before .before .before .before) .bad-length .result) ((c .before .before .before .before .before .before) .if1 .left) ((c .before .before .before .before .before .before .before) .bad-length .ensures)) (past (found-none ((c .before .before .before .before .before) .first-bad-check .result) ((c .before .before .before) .enum-told .given .1) ((c .before .before .before .before .before) .first-bad-check .ensures)) (among-given 4 1 (badHeader ((c .before .before .before .before .before .before .before .before .before) .args .file .now) .at) (c .refused2 .ensures) (only-lowest 4 (badHeader ((c .before .before .before .before .before .before .before .before .before) .args .file .now) .at) (told-not ((c .before .before) .number-and-kind .result) (not-true _ ((c .before) .if2 .taken)) ((c .before .before) .number-and-kind .ensures)))))
 
--- src/file.rt:21:1
 returns-4 : tie.Need-returns-4
 returns-4 c = whole-past (told-not ((c .before .before .before .before .before .before) .bad-length .result) ((c .before .before .before .before .before) .if1 .left) ((c .before .before .before .before .before .before) .bad-length .ensures)) (past (found-none ((c .before .before .before .before) .first-bad-check .result) ((c .before .before) .enum-told .given .1) ((c .before .before .before .before) .first-bad-check .ensures)) (past (only-clear 4 (badHeader ((c .before .before .before .before .before .before .before .before) .args .file .now) .at) (λ d. d (told ((c .before) .number-and-kind .result) (not-false _ (c .if2 .left)) ((c .before) .number-and-kind .ensures)))) none-left))
 

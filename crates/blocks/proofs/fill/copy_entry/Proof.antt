@@ -2,24 +2,16 @@ use Rattle.blocks.proofs.CopyLaws.{copied}
 use borrow.Author.Needs.{needs}
 use Rattle.blocks.proofs.fill.copy_entry.Statement.{statement}
 use Rattle.blocks.proofs.fill.copy_entry.Tie as tie
-use Rattle.blocks.proofs.fill.copy_entry.Reads as reads
-use Rattle.blocks.proofs.fill.copy_entry.Lts as lts
-use Rattle.words.proofs.long_word_at.Reads as long-word-at-reads
-use Rattle.words.proofs.put_long_word.Reads as put-long-word-reads
 
--- src/fill.rt:16:29
 long-word-at-requires : tie.Need-long-word-at-requires
 long-word-at-requires c κs = search needs
 
--- src/fill.rt:16:5
 put-long-word-requires : tie.Need-put-long-word-requires
 put-long-word-requires c κs = search needs
 
--- src/fill.rt:12:1
 same-length : tie.Need-same-length
 same-length c = search needs
 
--- src/fill.rt:12:1
 returns : tie.Need-returns
 returns c = copied (record { small = λ i. (c .before .before .before .before .before) .shared-slice-known .given i .fits }) ((c .before .before .before .before .before .before .before) .pre .0) ((c .before .before .before) .long-word-at .ensures) ((c .before .before) .put-long-word .ensures)
 

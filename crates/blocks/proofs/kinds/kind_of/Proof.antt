@@ -3,23 +3,16 @@ use native.Mathlib.Omega.{arith}
 use borrow.Author.Needs.{needs}
 use Rattle.blocks.proofs.kinds.kind_of.Statement.{statement}
 use Rattle.blocks.proofs.kinds.kind_of.Tie as tie
-use Rattle.blocks.proofs.kinds.kind_of.Reads as reads
-use Rattle.blocks.proofs.kinds.kind_of.Lts as lts
-use Rattle.blocks.proofs.kinds.first_link_block.Reads as first-link-block-reads
 
--- src/kinds.rt:35:9
 returns : tie.Need-returns
 returns c = header-kind (((c .before) .args) .n) (((c .before) .args) .b) (c .if1 .taken)
 
--- src/kinds.rt:37:8
 first-link-block-requires : tie.Need-first-link-block-requires
 first-link-block-requires c κs = search needs
 
--- src/kinds.rt:38:9
 returns-2 : tie.Need-returns-2
 returns-2 c = link-kind (((c .before .before .before) .args) .n) (((c .before .before .before) .args) .b) ((c .before .before) .if1 .left) (omega (arith, ((c .before) .first-link-block .ensures)))
 
--- src/kinds.rt:30:1
 returns-3 : tie.Need-returns-3
 returns-3 c = group-kind (((c .before .before .before) .args) .n) (((c .before .before .before) .args) .b) ((c .before .before) .if1 .left) (omega (arith, ((c .before) .first-link-block .ensures)))
 

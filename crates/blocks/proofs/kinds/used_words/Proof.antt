@@ -7,45 +7,31 @@ use Prim.Native.Nat.{_-_, _*_}
 use borrow.Author.Needs.{needs}
 use Rattle.blocks.proofs.kinds.used_words.Statement.{statement}
 use Rattle.blocks.proofs.kinds.used_words.Tie as tie
-use Rattle.blocks.proofs.kinds.used_words.Reads as reads
-use Rattle.blocks.proofs.kinds.used_words.Lts as lts
-use Rattle.blocks.proofs.kinds.first_link_block.Reads as first-link-block-reads
-use Rattle.blocks.proofs.kinds.kind_of.Reads as kind-of-reads
-use Rattle.blocks.proofs.kinds.words_left.Reads as words-left-reads
 
--- src/kinds.rt:60:9
 kind-of-requires : tie.Need-kind-of-requires
 kind-of-requires c κs = search needs
 
--- src/kinds.rt:63:28
 sub-words-left : tie.Need-sub-words-left
 sub-words-left c = omega (arith, kind-2 (((c .before .before) .args) .n) (((c .before .before) .args) .e) (((c .before .before) .args) .b) (sym ((c .before) .kind-of .ensures) ∙ c .match .keys2))
 
--- src/kinds.rt:63:14
 words-left-requires : tie.Need-words-left-requires
 words-left-requires c κs = search needs
 
--- src/kinds.rt:64:32
 first-link-block-requires : tie.Need-first-link-block-requires
 first-link-block-requires c κs = search needs
 
--- src/kinds.rt:64:28
 sub-words-left-2 : tie.Need-sub-words-left-2
 sub-words-left-2 c = omega (arith, (kind-other (((c .before .before .before) .args) .n) (((c .before .before .before) .args) .e) (((c .before .before .before) .args) .b) (λ z. (c .before) .match .rest .0 .1 (((c .before .before) .kind-of .ensures) ∙ z)) (λ z. (c .before) .match .rest .1 (((c .before .before) .kind-of .ensures) ∙ z))), c .first-link-block .ensures)
 
--- src/kinds.rt:64:14
 words-left-requires-2 : tie.Need-words-left-requires-2
 words-left-requires-2 c κs = search needs
 
--- src/kinds.rt:56:1
 returns : tie.Need-returns
 returns c = kind-1 (((c .before .before) .args) .n) (((c .before .before) .args) .e) (((c .before .before) .args) .b) (sym ((c .before) .kind-of .ensures) ∙ c .match .keys1)
 
--- src/kinds.rt:56:1
 returns-2 : tie.Need-returns-2
 returns-2 c = c .words-left .ensures ∙ sym (kind-2 (((c .before .before .before) .args) .n) (((c .before .before .before) .args) .e) (((c .before .before .before) .args) .b) (sym ((c .before .before) .kind-of .ensures) ∙ (c .before) .match .keys2) .1)
 
--- src/kinds.rt:56:1
 returns-3 : tie.Need-returns-3
 returns-3 c = c .words-left2 .ensures ∙ ap (λ first. pairWords (((c .before .before .before .before) .args) .e - blockPairs * (((c .before .before .before .before) .args) .b - first))) ((c .before) .first-link-block .ensures) ∙ sym ((kind-other (((c .before .before .before .before) .args) .n) (((c .before .before .before .before) .args) .e) (((c .before .before .before .before) .args) .b) (λ z. (c .before .before) .match .rest .0 .1 (((c .before .before .before) .kind-of .ensures) ∙ z)) (λ z. (c .before .before) .match .rest .1 (((c .before .before .before) .kind-of .ensures) ∙ z))) .1)
 

@@ -1,53 +1,41 @@
+use Prim.Native.Nat.{_-_}
 use borrow.Author.Tests.{not-true, not-false}
 use Rattle.blocks.proofs.LookLaws.{Passed, passed-none, passed-more, lowest-at, all-passed, told, told-not}
 use Rattle.survey.specs.Faults.{badCheck}
 use borrow.Author.Needs.{needs}
 use native.Mathlib.Omega.{arith}
-use Prim.Native.Nat.{_≤_, _-_}
 use Rattle.blocks.proofs.searches.first_bad_check.Statement.{statement}
 use Rattle.blocks.proofs.searches.first_bad_check.Tie as tie
-use Rattle.blocks.proofs.searches.first_bad_check.Reads as reads
-use Rattle.blocks.proofs.searches.first_bad_check.Lts as lts
-use Rattle.views.proofs.sums.check_agrees.Reads as check-agrees-reads
-use Rattle.blocks.proofs.tests.blocks_in.Reads as blocks-in-reads
 
 abbrev Inv-loop : tie.InvT-loop
-Inv-loop file count b₀ b = (b ≤ count) × Passed (badCheck file) b
+Inv-loop file count b₀ b = Passed (badCheck file) b
 
 abbrev μ-loop : tie.MeasureT-loop
 μ-loop file count b₀ b = count - b
 
--- src/searches.rt:17:9
 blocks-in-requires : tie.Need-blocks-in-requires Inv-loop μ-loop
 blocks-in-requires c κs = search needs
 
--- src/searches.rt:19:5
 loop-holds : tie.Need-loop-holds Inv-loop μ-loop
-loop-holds c = (omega arith, passed-none)
+loop-holds c = passed-none
 
--- src/searches.rt:20:13
 check-agrees-requires : tie.Need-check-agrees-requires Inv-loop μ-loop
 check-agrees-requires c κs = record { fits = omega (arith, ((c .before .before) .blocks-in .ensures)) }
 
--- src/searches.rt:21:13
 returns : tie.Need-returns Inv-loop μ-loop
-returns c = lowest-at (((c .before .before .before) .loop .inv) .1) (omega (arith, ((c .before .before .before .before) .blocks-in .ensures))) (told-not ((c .before) .check-agrees .result) (not-true _ (c .if1 .taken)) ((c .before) .check-agrees .ensures))
+returns c = lowest-at ((c .before .before .before) .loop .inv) (omega (arith, ((c .before .before .before .before) .blocks-in .ensures))) (told-not ((c .before) .check-agrees .result) (not-true _ (c .if1 .taken)) ((c .before) .check-agrees .ensures))
 
--- src/searches.rt:23:9
 add-b : tie.Need-add-b Inv-loop μ-loop
 add-b c = omega arith
 
--- src/searches.rt:19:5
 loop-less : tie.Need-loop-less Inv-loop μ-loop
 loop-less c = omega arith
 
--- src/searches.rt:19:5
 loop-again : tie.Need-loop-again Inv-loop μ-loop
-loop-again c = (omega arith, passed-more (((c .before .before .before) .loop .inv) .1) (λ d. d (told ((c .before) .check-agrees .result) (not-false _ (c .if1 .left)) ((c .before) .check-agrees .ensures))))
+loop-again c = passed-more ((c .before .before .before) .loop .inv) (λ d. d (told ((c .before) .check-agrees .result) (not-false _ (c .if1 .left)) ((c .before) .check-agrees .ensures)))
 
--- src/searches.rt:14:1
 returns-2 : tie.Need-returns-2 Inv-loop μ-loop
-returns-2 c = all-passed (((c .before) .loop .inv) .1) (omega (arith, ((c .before .before) .blocks-in .ensures)))
+returns-2 c = all-passed ((c .before) .loop .inv) (omega (arith, ((c .before .before) .blocks-in .ensures)))
 
 pub first-bad-check-spec : {M : Type 1} → statement M
 first-bad-check-spec =

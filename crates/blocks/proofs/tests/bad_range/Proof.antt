@@ -2,22 +2,16 @@ use native.Mathlib.Omega.{arith}
 use mathlib.Core.Logic.{inl, inr, ⊎-elim}
 use Rattle.blocks.proofs.tests.bad_range.Statement.{statement}
 use Rattle.blocks.proofs.tests.bad_range.Tie as tie
-use Rattle.blocks.proofs.tests.bad_range.Reads as reads
-use Rattle.blocks.proofs.tests.bad_range.Lts as lts
 
--- src/tests.rt:61:9
 returns : tie.Need-returns
 returns c = inl (c .if1 .taken)
 
--- src/tests.rt:64:9
 returns-2 : tie.Need-returns-2
 returns-2 c = inr (inl (c .if2 .taken))
 
--- src/tests.rt:67:9
 returns-3 : tie.Need-returns-3
 returns-3 c = inr (inr (c .if3 .taken))
 
--- src/tests.rt:57:1
 returns-4 : tie.Need-returns-4
 returns-4 c = ⊎-elim (λ z. omega arith) (⊎-elim (λ z. omega arith) (λ z. omega arith))
 

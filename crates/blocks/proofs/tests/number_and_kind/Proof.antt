@@ -4,28 +4,19 @@ use mathlib.Core.Path.{sym, _∙_}
 use borrow.Author.Needs.{needs}
 use Rattle.blocks.proofs.tests.number_and_kind.Statement.{statement}
 use Rattle.blocks.proofs.tests.number_and_kind.Tie as tie
-use Rattle.blocks.proofs.tests.number_and_kind.Reads as reads
-use Rattle.blocks.proofs.tests.number_and_kind.Lts as lts
-use Rattle.views.proofs.view.block_numbered.Reads as block-numbered-reads
-use Rattle.views.proofs.view.block_word.Reads as block-word-reads
 
--- src/tests.rt:91:9
 block-numbered-requires : tie.Need-block-numbered-requires
 block-numbered-requires c κs = search needs
 
--- src/tests.rt:92:9
 returns : tie.Need-returns
 returns c = λ p. eqb-false (numberIn (((c .before .before .before) .args) .file .now) (((c .before .before .before) .args) .b)) (((c .before .before .before) .args) .b) ((sym ((c .before) .block-numbered .ensures)) ∙ not-true ((c .before) .block-numbered .result) (c .if1 .taken)) (p .0)
 
--- src/tests.rt:94:8
 block-word-requires : tie.Need-block-word-requires
 block-word-requires c κs = search needs
 
--- src/tests.rt:95:9
 returns-2 : tie.Need-returns-2
 returns-2 c = λ p. c .if2 .taken (((c .before) .block-word .ensures) ∙ p .1)
 
--- src/tests.rt:87:1
 returns-3 : tie.Need-returns-3
 returns-3 c = (eqb-true (numberIn (((c .before .before .before .before .before) .args) .file .now) (((c .before .before .before .before .before) .args) .b)) (((c .before .before .before .before .before) .args) .b) ((sym ((c .before .before .before) .block-numbered .ensures)) ∙ not-false ((c .before .before .before) .block-numbered .result) ((c .before .before) .if1 .left)), sym ((c .before) .block-word .ensures) ∙ c .if2 .left)
 

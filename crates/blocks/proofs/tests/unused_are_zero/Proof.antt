@@ -5,10 +5,6 @@ use mathlib.Core.Path.{_≡_, sym, _∙_}
 use Prim.Native.Nat.{ℕ, _≤_, _<_, _-_}
 use Rattle.blocks.proofs.tests.unused_are_zero.Statement.{statement}
 use Rattle.blocks.proofs.tests.unused_are_zero.Tie as tie
-use Rattle.blocks.proofs.tests.unused_are_zero.Reads as reads
-use Rattle.blocks.proofs.tests.unused_are_zero.Lts as lts
-use Rattle.blocks.proofs.kinds.used_words.Reads as used-words-reads
-use Rattle.views.proofs.view.block_word.Reads as block-word-reads
 
 abbrev Inv-loop : tie.InvT-loop
 Inv-loop file n e b w₀ w = (usedWords n e b ≤ w) × ((k : ℕ) → k < w → usedWords n e b ≤ k → blockWord file b k ≡ 0)
@@ -16,35 +12,27 @@ Inv-loop file n e b w₀ w = (usedWords n e b ≤ w) × ((k : ℕ) → k < w →
 abbrev μ-loop : tie.MeasureT-loop
 μ-loop file n e b w₀ w = 126 - w
 
--- src/tests.rt:112:9
 used-words-requires : tie.Need-used-words-requires Inv-loop μ-loop
 used-words-requires c κs = (c .before) .pre .1
 
--- src/tests.rt:113:5
 loop-holds : tie.Need-loop-holds Inv-loop μ-loop
 loop-holds c = (omega arith, λ k l m. absurd (omega arith))
 
--- src/tests.rt:114:12
 block-word-requires : tie.Need-block-word-requires Inv-loop μ-loop
 block-word-requires c κs = ((c .before .before .before .before) .pre .0, omega arith)
 
--- src/tests.rt:115:13
 returns : tie.Need-returns Inv-loop μ-loop
 returns c = λ u. c .if1 .taken (((c .before) .block-word .ensures) ∙ u .at (((c .before .before .before) .loop .w)) (((c .before .before .before) .loop .inv) .0) (omega arith))
 
--- src/tests.rt:117:9
 add-w : tie.Need-add-w Inv-loop μ-loop
 add-w c = omega arith
 
--- src/tests.rt:113:5
 loop-less : tie.Need-loop-less Inv-loop μ-loop
 loop-less c = omega arith
 
--- src/tests.rt:113:5
 loop-again : tie.Need-loop-again Inv-loop μ-loop
 loop-again c = (omega arith, below-more _ _ (((c .before .before .before) .loop .inv) .1) (λ l. sym ((c .before) .block-word .ensures) ∙ c .if1 .left))
 
--- src/tests.rt:108:1
 returns-2 : tie.Need-returns-2 Inv-loop μ-loop
 returns-2 c = record { at = λ w l m. ((c .before) .loop .inv) .1 w (omega arith) l }
 

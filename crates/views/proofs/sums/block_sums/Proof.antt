@@ -7,10 +7,6 @@ use mathlib.Core.Path.{_≡_, sym, ap, ap₂, _∙_}
 use Prim.Native.Nat.{_≤_, _-_}
 use Rattle.views.proofs.sums.block_sums.Statement.{statement}
 use Rattle.views.proofs.sums.block_sums.Tie as tie
-use Rattle.views.proofs.sums.block_sums.Reads as reads
-use Rattle.views.proofs.sums.block_sums.Lts as lts
-use Rattle.views.proofs.sums.sums_after.Reads as sums-after-reads
-use Rattle.views.proofs.view.block_word.Reads as block-word-reads
 
 abbrev Inv-loop : tie.InvT-loop
 Inv-loop file b s₀ w₀ s w = (w ≤ 126) × (sumsOf s ≡ sums (blockWord file b) w)
@@ -18,31 +14,24 @@ Inv-loop file b s₀ w₀ s w = (w ≤ 126) × (sumsOf s ≡ sums (blockWord fil
 abbrev μ-loop : tie.MeasureT-loop
 μ-loop file b s₀ w₀ s w = 126 - w
 
--- src/sums.rt:32:5
 loop-holds : tie.Need-loop-holds Inv-loop μ-loop
 loop-holds c = (omega arith, sym (sums-none (blockWord (((c .before) .args) .file .now) (((c .before) .args) .b))))
 
--- src/sums.rt:33:13
 block-word-requires : tie.Need-block-word-requires Inv-loop μ-loop
 block-word-requires c κs = ((c .before .before .before) .pre, omega arith)
 
--- src/sums.rt:34:9
 sums-after-requires : tie.Need-sums-after-requires Inv-loop μ-loop
 sums-after-requires c κs = search needs
 
--- src/sums.rt:35:9
 add-w : tie.Need-add-w Inv-loop μ-loop
 add-w c = omega arith
 
--- src/sums.rt:32:5
 loop-less : tie.Need-loop-less Inv-loop μ-loop
 loop-less c = omega arith
 
--- src/sums.rt:32:5
 loop-again : tie.Need-loop-again Inv-loop μ-loop
 loop-again c = (omega arith, c .sums-after .ensures ∙ ap₂ sumsAfter ((c .before .before .before) .loop .inv .1) ((c .before) .block-word .ensures) ∙ sym (sums-more (blockWord (((c .before .before .before .before .before) .args) .file .now) (((c .before .before .before .before .before) .args) .b)) ((c .before .before .before) .loop .w)))
 
--- src/sums.rt:26:1
 returns : tie.Need-returns Inv-loop μ-loop
 returns c = (c .before) .loop .inv .1 ∙ ap (sums (blockWord (((c .before .before .before) .args) .file .now) (((c .before .before .before) .args) .b))) (omega arith)
 

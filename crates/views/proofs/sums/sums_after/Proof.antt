@@ -3,19 +3,13 @@ use Prim.Native.Nat.{_+_, _^_, _%_, ℕ}
 use borrow.Author.Needs.{needs}
 use Rattle.views.proofs.sums.sums_after.Statement.{statement}
 use Rattle.views.proofs.sums.sums_after.Tie as tie
-use Rattle.views.proofs.sums.sums_after.Reads as reads
-use Rattle.views.proofs.sums.sums_after.Lts as lts
-use Rattle.std.proofs.num.wrapping_add_u32.Reads as wrapping-add-u32-reads
 
--- src/sums.rt:21:9
 wrapping-add-u32-requires : tie.Need-wrapping-add-u32-requires
 wrapping-add-u32-requires c κs = search needs
 
--- src/sums.rt:22:9
 wrapping-add-u32-requires-2 : tie.Need-wrapping-add-u32-requires-2
 wrapping-add-u32-requires-2 c κs = search needs
 
--- src/sums.rt:18:1
 returns : tie.Need-returns
 returns c = λ i. record { a = ((c .before) .wrapping-add-u32 .ensures) i; b = ((c .wrapping-add-u322 .ensures) ∙ ap (λ (z : ℕ). (((c .before .before) .args) .s .b + z) % 2 ^ 32) ((c .before) .wrapping-add-u32 .ensures)) i }
 

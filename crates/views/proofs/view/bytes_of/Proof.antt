@@ -8,30 +8,22 @@ use Rattle.views.specs.Views.{blockOf}
 use Rattle.views.proofs.ViewLaws.{part-size}
 use Rattle.views.proofs.view.bytes_of.Statement.{statement}
 use Rattle.views.proofs.view.bytes_of.Tie as tie
-use Rattle.views.proofs.view.bytes_of.Reads as reads
-use Rattle.views.proofs.view.bytes_of.Lts as lts
 
--- src/view.rt:23:17
 mul-start : tie.Need-mul-start
 mul-start c = search needs
 
--- src/view.rt:24:15
 add-end : tie.Need-add-end
 add-end c = search needs
 
--- src/view.rt:25:5
 sub-result : tie.Need-sub-result
 sub-result c = search needs
 
--- src/view.rt:25:5
 part-result-start : tie.Need-part-result-start
 part-result-start c = search needs
 
--- src/view.rt:25:5
 part-result-end : tie.Need-part-result-end
 part-result-end c = search needs
 
--- src/view.rt:19:1
 returns : tie.Need-returns
 unfolding blockOf
 returns c =
