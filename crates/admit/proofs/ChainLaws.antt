@@ -19,22 +19,9 @@ use Rattle.survey.proofs.Verdicts.{given, past, none-left, early, afterwards, f
 use Rattle.entries.specs.Entries.{stand}
 use Rattle.refusals.specs.Packed.{refusalAt, refusalWhole}
 use Rattle.refusals.specs.Searches.{Tells}
+use Rattle.refusals.proofs.Looking.{stop-at, stop-whole, whole-clear}
 use Rattle.cycles.specs.Lists.{linkIn, linksIn}
 use Rattle.admit.specs.Lists.{groupIn, groupsIn, linkFaults}
-
--- ---- one row
-
-pub stop-at : {f : Fault} {fs : List Fault} {k : ℕ} {r : Refusal} → Lowest f k → r ≡ refusal f k → Answers (f ∷ fs) (refused r)
-stop-at {k = k} low e = given (record { lowestPlace = k; lowest = low; is = ap refused e })
-
-whole-lowest : {m : ℕ} {P : Type 0} → P → Lowest (whole m P) 0
-whole-lowest p = record { below = omega arith; fault = p; first = λ j l. absurd (omega arith) }
-
-pub whole-clear : {m : ℕ} {P : Type 0} → (P → ⊥) → Clear (whole m P)
-whole-clear d = record { none = λ k l p. d p }
-
-pub stop-whole : {m : ℕ} {P : Type 0} {fs : List Fault} {r : Refusal} → P → r ≡ refusalWhole m → Answers (whole m P ∷ fs) (refused r)
-stop-whole p e = stop-at (whole-lowest p) e
 
 -- ---- 5
 

@@ -1,26 +1,18 @@
--- What tests tell, and how a search goes on: the loops of admission cite these, a line a need.
-use Prim.Native.Nat.{ℕ, _+_, _<_, _≤_}
-use mathlib.Core.Path.{_≡_, refl}
-use mathlib.Core.Bool.{Bool, true, false}
+-- What the tests of admission tell, of counts, ends and order.
+use Prim.Native.Nat.{ℕ, _<_, _≤_}
+use mathlib.Core.Path.{_≡_}
 use mathlib.Core.Logic.{_⊎_, inl, inr, ⊎-elim}
 use native.Mathlib.Omega.{arith}
 use lib.Dec.{leb, ltb}
 use borrow.Author.Tests.{ltb-true, ltb-false, leb-true, leb-false}
-use borrow.Author.Count.{below-more}
 use Rattle.survey.specs.Limits.{countLimit}
 use Rattle.survey.specs.Survey.{Group, Link, Ascends}
-use Rattle.survey.specs.Refusals.{Fault, Lowest, Clear}
 use Rattle.entries.specs.declared.counts.Group as counts
 use Rattle.entries.specs.declared.Link as entries
 use Rattle.entries.specs.Counts.{GroupIs}
 use Rattle.entries.specs.Entries.{LinkIs}
 use Rattle.refusals.specs.Searches.{Tells}
-
--- ---- tests
-
-tells-by : {P : Type 0} (t : Bool) → (t ≡ true → P) → (t ≡ false → P → ⊥) → Tells P t
-tells-by true y z = y refl
-tells-by false y z = z refl
+use Rattle.refusals.proofs.Looking.{tells-by}
 
 pub tells-lt : (a b : ℕ) → Tells (a < b) (ltb a b)
 tells-lt a b = tells-by (ltb a b) (ltb-true a b) (λ e h. omega (arith, ltb-false a b e))
@@ -55,22 +47,3 @@ module _ (a b : Link) {k : ℕ} (later : 0 < k) where
     where
       strictly : {x y : ℕ} → (x ≡ y → ⊥) → x ≤ y → x < y
       strictly n l = omega arith
-
--- ---- searches
-
--- No place below k is at fault.
-pub record Before (f : Fault) (k : ℕ) : Type 0 where
-  pub none : (j : ℕ) → j < k → f .at j → ⊥
-
-module _ {f : Fault} where
-  pub before-first : Before f 0
-  before-first = record { none = λ j l h. omega arith }
-
-  pub before-next : {k : ℕ} → Before f k → (f .at k → ⊥) → Before f (k + 1)
-  before-next {k} b clear = record { none = below-more (λ j. f .at j → ⊥) k (b .none) clear }
-
-  pub found-here : {k : ℕ} → k < f .places → Before f k → f .at k → Lowest f k
-  found-here l b h = record { below = l; fault = h; first = b .none }
-
-  pub found-none : {k : ℕ} → f .places ≤ k → Before f k → Clear f
-  found-none l b = record { none = λ j h. b .none j (omega arith) }

@@ -1,6 +1,5 @@
 -- The laws of a survey file's blocks. Other crates' proofs cite them.
 pub mod KindLaws
-pub mod LookLaws
 pub mod ChainLaws
 pub mod CopyLaws
 pub mod LaidOut

@@ -1,4 +1,4 @@
-use Rattle.admit.proofs.ChainLaws.{stop-at, stop-whole, whole-clear}
+use Rattle.refusals.proofs.Looking.{stop-at, stop-whole, whole-clear}
 use Rattle.survey.proofs.Verdicts.{past, none-left}
 use borrow.Author.Needs.{needs}
 use Rattle.admit.proofs.admit_links.Statement.{statement}

@@ -1,4 +1,4 @@
-use Rattle.admit.proofs.TestLaws.{Before, before-first, before-next, found-here, found-none}
+use Rattle.refusals.proofs.Looking.{Before, before-first, before-next, found-here, found-none}
 use Rattle.admit.specs.Lists.{groupsIn}
 use Rattle.survey.specs.Faults.{badCount}
 use native.Mathlib.Omega.{arith}

@@ -1,4 +1,4 @@
-use Rattle.admit.proofs.TestLaws.{Before, before-first, before-next, found-here, found-none}
+use Rattle.refusals.proofs.Looking.{Before, before-first, before-next, found-here, found-none}
 use Rattle.cycles.specs.Lists.{linksIn}
 use Rattle.survey.specs.Faults.{badEnd}
 use native.Mathlib.Omega.{arith}

@@ -1,4 +1,5 @@
-use Rattle.blocks.proofs.ChainLaws.{stops, goes-on, opened-header}
+use Rattle.refusals.proofs.Looking.{stops, goes-on}
+use Rattle.blocks.proofs.ChainLaws.{opened-header}
 use Rattle.blocks.specs.FileFaults.{openingFaults, layoutFaults}
 use Rattle.survey.proofs.Verdicts.{afterwards}
 use borrow.Author.Needs.{needs}

@@ -1,5 +1,4 @@
-use Rattle.blocks.proofs.ChainLaws.{whole-given, whole-past, among-given, found-at, found-none}
-use Rattle.blocks.proofs.LookLaws.{told, told-not}
+use Rattle.refusals.proofs.Looking.{told, told-not, stop-at, stop-whole, whole-clear, found-at, found-missing}
 use borrow.Author.Tests.{not-true, not-false}
 use Rattle.survey.proofs.Verdicts.{past, none-left}
 use Rattle.survey.specs.Faults.{badKind, badUnused}
@@ -20,7 +19,7 @@ refused-whole-requires : tie.Need-refused-whole-requires
 refused-whole-requires c κs = search needs
 
 returns : tie.Need-returns
-returns c = whole-given (c .refused-whole .ensures) (told ((c .before .before) .bad-range .result) ((c .before) .if1 .taken) (rw ((c .before .before .before .before) .n-in .ensures .0, (c .before .before .before) .e-in .ensures .0) at ((c .before .before) .bad-range .ensures)))
+returns c = stop-whole (told ((c .before .before) .bad-range .result) ((c .before) .if1 .taken) (rw ((c .before .before .before .before) .n-in .ensures .0, (c .before .before .before) .e-in .ensures .0) at ((c .before .before) .bad-range .ensures))) (c .refused-whole .ensures)
 
 blocks-fit-requires : tie.Need-blocks-fit-requires
 blocks-fit-requires c κs = search needs
@@ -29,7 +28,7 @@ refused-whole-requires-2 : tie.Need-refused-whole-requires-2
 refused-whole-requires-2 c κs = search needs
 
 returns-2 : tie.Need-returns-2
-returns-2 c = whole-past (told-not ((c .before .before .before .before) .bad-range .result) ((c .before .before .before) .if1 .left) (rw ((c .before .before .before .before .before .before) .n-in .ensures .0, (c .before .before .before .before .before) .e-in .ensures .0) at ((c .before .before .before .before) .bad-range .ensures))) (whole-given (c .refused-whole2 .ensures) (told-not ((c .before .before) .blocks-fit .result) (not-true _ ((c .before) .if2 .taken)) ((c .before .before) .blocks-fit .ensures)))
+returns-2 c = past (whole-clear (told-not ((c .before .before .before .before) .bad-range .result) ((c .before .before .before) .if1 .left) (rw ((c .before .before .before .before .before .before) .n-in .ensures .0, (c .before .before .before .before .before) .e-in .ensures .0) at ((c .before .before .before .before) .bad-range .ensures)))) (stop-whole (told-not ((c .before .before) .blocks-fit .result) (not-true _ ((c .before) .if2 .taken)) ((c .before .before) .blocks-fit .ensures)) (c .refused-whole2 .ensures))
 
 first-bad-kind-requires : tie.Need-first-bad-kind-requires
 first-bad-kind-requires c κs = search needs
@@ -41,7 +40,7 @@ refused-requires : tie.Need-refused-requires
 refused-requires c κs = search needs
 
 returns-3 : tie.Need-returns-3
-returns-3 c = whole-past (told-not ((c .before .before .before .before .before .before .before .before) .bad-range .result) ((c .before .before .before .before .before .before .before) .if1 .left) (rw ((c .before .before .before .before .before .before .before .before .before .before) .n-in .ensures .0, (c .before .before .before .before .before .before .before .before .before) .e-in .ensures .0) at ((c .before .before .before .before .before .before .before .before) .bad-range .ensures))) (whole-past (λ d. d (told ((c .before .before .before .before .before .before) .blocks-fit .result) (not-false _ ((c .before .before .before .before .before) .if2 .left)) ((c .before .before .before .before .before .before) .blocks-fit .ensures))) (among-given _ _ (badKind ((c .before .before .before .before .before .before .before .before .before .before .before .before) .args .file .now) .at) (c .refused .ensures) (found-at ((c .before .before .before .before) .first-bad-kind .result) ((c .before .before) .b .given .1) ((c .before .before .before .before) .first-bad-kind .ensures))))
+returns-3 c = past (whole-clear (told-not ((c .before .before .before .before .before .before .before .before) .bad-range .result) ((c .before .before .before .before .before .before .before) .if1 .left) (rw ((c .before .before .before .before .before .before .before .before .before .before) .n-in .ensures .0, (c .before .before .before .before .before .before .before .before .before) .e-in .ensures .0) at ((c .before .before .before .before .before .before .before .before) .bad-range .ensures)))) (past (whole-clear (λ d. d (told ((c .before .before .before .before .before .before) .blocks-fit .result) (not-false _ ((c .before .before .before .before .before) .if2 .left)) ((c .before .before .before .before .before .before) .blocks-fit .ensures)))) (stop-at (found-at ((c .before .before .before .before) .first-bad-kind .result) ((c .before .before) .b .given .1) ((c .before .before .before .before) .first-bad-kind .ensures)) (c .refused .ensures)))
 
 enum-told : tie.Need-enum-told
 enum-told c = search needs
@@ -56,13 +55,13 @@ refused-requires-2 : tie.Need-refused-requires-2
 refused-requires-2 c κs = search needs
 
 returns-4 : tie.Need-returns-4
-returns-4 c = whole-past (told-not ((c .before .before .before .before .before .before .before .before .before .before .before) .bad-range .result) ((c .before .before .before .before .before .before .before .before .before .before) .if1 .left) (rw ((c .before .before .before .before .before .before .before .before .before .before .before .before .before) .n-in .ensures .0, (c .before .before .before .before .before .before .before .before .before .before .before .before) .e-in .ensures .0) at ((c .before .before .before .before .before .before .before .before .before .before .before) .bad-range .ensures))) (whole-past (λ d. d (told ((c .before .before .before .before .before .before .before .before .before) .blocks-fit .result) (not-false _ ((c .before .before .before .before .before .before .before .before) .if2 .left)) ((c .before .before .before .before .before .before .before .before .before) .blocks-fit .ensures))) (past (found-none ((c .before .before .before .before .before .before .before) .first-bad-kind .result) ((c .before .before .before .before .before) .enum-told .given .1) ((c .before .before .before .before .before .before .before) .first-bad-kind .ensures)) (among-given _ _ (badUnused ((c .before .before .before .before .before .before .before .before .before .before .before .before .before .before .before) .args .file .now) .at) (c .refused2 .ensures) (found-at ((c .before .before .before .before) .first-bad-unused .result) ((c .before .before) .b2 .given .1) ((c .before .before .before .before) .first-bad-unused .ensures)))))
+returns-4 c = past (whole-clear (told-not ((c .before .before .before .before .before .before .before .before .before .before .before) .bad-range .result) ((c .before .before .before .before .before .before .before .before .before .before) .if1 .left) (rw ((c .before .before .before .before .before .before .before .before .before .before .before .before .before) .n-in .ensures .0, (c .before .before .before .before .before .before .before .before .before .before .before .before) .e-in .ensures .0) at ((c .before .before .before .before .before .before .before .before .before .before .before) .bad-range .ensures)))) (past (whole-clear (λ d. d (told ((c .before .before .before .before .before .before .before .before .before) .blocks-fit .result) (not-false _ ((c .before .before .before .before .before .before .before .before) .if2 .left)) ((c .before .before .before .before .before .before .before .before .before) .blocks-fit .ensures)))) (past (found-missing ((c .before .before .before .before .before .before .before) .first-bad-kind .result) ((c .before .before .before .before .before) .enum-told .given .1) ((c .before .before .before .before .before .before .before) .first-bad-kind .ensures)) (stop-at (found-at ((c .before .before .before .before) .first-bad-unused .result) ((c .before .before) .b2 .given .1) ((c .before .before .before .before) .first-bad-unused .ensures)) (c .refused2 .ensures))))
 
 enum-told-2 : tie.Need-enum-told-2
 enum-told-2 c = search needs
 
 returns-5 : tie.Need-returns-5
-returns-5 c = whole-past (told-not ((c .before .before .before .before .before .before .before .before .before) .bad-range .result) ((c .before .before .before .before .before .before .before .before) .if1 .left) (rw ((c .before .before .before .before .before .before .before .before .before .before .before) .n-in .ensures .0, (c .before .before .before .before .before .before .before .before .before .before) .e-in .ensures .0) at ((c .before .before .before .before .before .before .before .before .before) .bad-range .ensures))) (whole-past (λ d. d (told ((c .before .before .before .before .before .before .before) .blocks-fit .result) (not-false _ ((c .before .before .before .before .before .before) .if2 .left)) ((c .before .before .before .before .before .before .before) .blocks-fit .ensures))) (past (found-none ((c .before .before .before .before .before) .first-bad-kind .result) ((c .before .before .before) .enum-told .given .1) ((c .before .before .before .before .before) .first-bad-kind .ensures)) (past (found-none ((c .before .before) .first-bad-unused .result) (c .enum-told2 .given .1) ((c .before .before) .first-bad-unused .ensures)) none-left)))
+returns-5 c = past (whole-clear (told-not ((c .before .before .before .before .before .before .before .before .before) .bad-range .result) ((c .before .before .before .before .before .before .before .before) .if1 .left) (rw ((c .before .before .before .before .before .before .before .before .before .before .before) .n-in .ensures .0, (c .before .before .before .before .before .before .before .before .before .before) .e-in .ensures .0) at ((c .before .before .before .before .before .before .before .before .before) .bad-range .ensures)))) (past (whole-clear (λ d. d (told ((c .before .before .before .before .before .before .before) .blocks-fit .result) (not-false _ ((c .before .before .before .before .before .before) .if2 .left)) ((c .before .before .before .before .before .before .before) .blocks-fit .ensures)))) (past (found-missing ((c .before .before .before .before .before) .first-bad-kind .result) ((c .before .before .before) .enum-told .given .1) ((c .before .before .before .before .before) .first-bad-kind .ensures)) (past (found-missing ((c .before .before) .first-bad-unused .result) (c .enum-told2 .given .1) ((c .before .before) .first-bad-unused .ensures)) none-left)))
 
 pub layout-faults-spec : {M : Type 1} → statement M
 layout-faults-spec =

@@ -1,5 +1,5 @@
-use Rattle.blocks.proofs.ChainLaws.{whole-given, whole-past, among-given, only-lowest, only-clear, found-at, found-none, has-header}
-use Rattle.blocks.proofs.LookLaws.{told, told-not}
+use Rattle.refusals.proofs.Looking.{told, told-not, stop-at, stop-whole, whole-clear, only-lowest, only-clear, found-at, found-missing}
+use Rattle.blocks.proofs.ChainLaws.{has-header}
 use borrow.Author.Tests.{not-true, not-false}
 use Rattle.survey.proofs.Verdicts.{past, none-left}
 use Rattle.survey.specs.Faults.{badCheck, badHeader}
@@ -14,7 +14,7 @@ refused-whole-requires : tie.Need-refused-whole-requires
 refused-whole-requires c κs = search needs
 
 returns : tie.Need-returns
-returns c = whole-given (c .refused-whole .ensures) (told ((c .before .before) .bad-length .result) ((c .before) .if1 .taken) ((c .before .before) .bad-length .ensures))
+returns c = stop-whole (told ((c .before .before) .bad-length .result) ((c .before) .if1 .taken) ((c .before .before) .bad-length .ensures)) (c .refused-whole .ensures)
 
 first-bad-check-requires : tie.Need-first-bad-check-requires
 first-bad-check-requires c κs = search needs
@@ -26,7 +26,7 @@ refused-requires : tie.Need-refused-requires
 refused-requires c κs = search needs
 
 returns-2 : tie.Need-returns-2
-returns-2 c = whole-past (told-not ((c .before .before .before .before .before .before) .bad-length .result) ((c .before .before .before .before .before) .if1 .left) ((c .before .before .before .before .before .before) .bad-length .ensures)) (among-given _ _ (badCheck ((c .before .before .before .before .before .before .before .before) .args .file .now) .at) (c .refused .ensures) (found-at ((c .before .before .before .before) .first-bad-check .result) ((c .before .before) .b .given .1) ((c .before .before .before .before) .first-bad-check .ensures)))
+returns-2 c = past (whole-clear (told-not ((c .before .before .before .before .before .before) .bad-length .result) ((c .before .before .before .before .before) .if1 .left) ((c .before .before .before .before .before .before) .bad-length .ensures))) (stop-at (found-at ((c .before .before .before .before) .first-bad-check .result) ((c .before .before) .b .given .1) ((c .before .before .before .before) .first-bad-check .ensures)) (c .refused .ensures))
 
 enum-told : tie.Need-enum-told
 enum-told c = search needs
@@ -38,10 +38,10 @@ refused-requires-2 : tie.Need-refused-requires-2
 refused-requires-2 c κs = search needs
 
 returns-3 : tie.Need-returns-3
-returns-3 c = whole-past (told-not ((c .before .before .before .before .before .before .before) .bad-length .result) ((c .before .before .before .before .before .before) .if1 .left) ((c .before .before .before .before .before .before .before) .bad-length .ensures)) (past (found-none ((c .before .before .before .before .before) .first-bad-check .result) ((c .before .before .before) .enum-told .given .1) ((c .before .before .before .before .before) .first-bad-check .ensures)) (among-given 4 1 (badHeader ((c .before .before .before .before .before .before .before .before .before) .args .file .now) .at) (c .refused2 .ensures) (only-lowest 4 (badHeader ((c .before .before .before .before .before .before .before .before .before) .args .file .now) .at) (told-not ((c .before .before) .number-and-kind .result) (not-true _ ((c .before) .if2 .taken)) ((c .before .before) .number-and-kind .ensures)))))
+returns-3 c = past (whole-clear (told-not ((c .before .before .before .before .before .before .before) .bad-length .result) ((c .before .before .before .before .before .before) .if1 .left) ((c .before .before .before .before .before .before .before) .bad-length .ensures))) (past (found-missing ((c .before .before .before .before .before) .first-bad-check .result) ((c .before .before .before) .enum-told .given .1) ((c .before .before .before .before .before) .first-bad-check .ensures)) (stop-at (only-lowest 4 (badHeader ((c .before .before .before .before .before .before .before .before .before) .args .file .now) .at) (told-not ((c .before .before) .number-and-kind .result) (not-true _ ((c .before) .if2 .taken)) ((c .before .before) .number-and-kind .ensures))) (c .refused2 .ensures)))
 
 returns-4 : tie.Need-returns-4
-returns-4 c = whole-past (told-not ((c .before .before .before .before .before .before) .bad-length .result) ((c .before .before .before .before .before) .if1 .left) ((c .before .before .before .before .before .before) .bad-length .ensures)) (past (found-none ((c .before .before .before .before) .first-bad-check .result) ((c .before .before) .enum-told .given .1) ((c .before .before .before .before) .first-bad-check .ensures)) (past (only-clear 4 (badHeader ((c .before .before .before .before .before .before .before .before) .args .file .now) .at) (λ d. d (told ((c .before) .number-and-kind .result) (not-false _ (c .if2 .left)) ((c .before) .number-and-kind .ensures)))) none-left))
+returns-4 c = past (whole-clear (told-not ((c .before .before .before .before .before .before) .bad-length .result) ((c .before .before .before .before .before) .if1 .left) ((c .before .before .before .before .before .before) .bad-length .ensures))) (past (found-missing ((c .before .before .before .before) .first-bad-check .result) ((c .before .before) .enum-told .given .1) ((c .before .before .before .before) .first-bad-check .ensures)) (past (only-clear 4 (badHeader ((c .before .before .before .before .before .before .before .before) .args .file .now) .at) (λ d. d (told ((c .before) .number-and-kind .result) (not-false _ (c .if2 .left)) ((c .before) .number-and-kind .ensures)))) none-left))
 
 pub opening-faults-spec : {M : Type 1} → statement M
 opening-faults-spec =

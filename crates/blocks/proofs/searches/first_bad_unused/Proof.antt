@@ -1,6 +1,6 @@
 use Prim.Native.Nat.{_-_}
 use borrow.Author.Tests.{not-true, not-false}
-use Rattle.blocks.proofs.LookLaws.{Passed, passed-none, passed-more, lowest-at, all-passed, told, told-not}
+use Rattle.refusals.proofs.Looking.{Before, before-first, before-next, found-here, found-none, told, told-not}
 use Rattle.survey.specs.Faults.{badUnused}
 use borrow.Author.Needs.{needs}
 use native.Mathlib.Omega.{arith}
@@ -8,7 +8,7 @@ use Rattle.blocks.proofs.searches.first_bad_unused.Statement.{statement
 use Rattle.blocks.proofs.searches.first_bad_unused.Tie as tie
 
 abbrev Inv-loop : tie.InvT-loop
-Inv-loop file n e count b₀ b = Passed (badUnused file) b
+Inv-loop file n e count b₀ b = Before (badUnused file) b
 
 abbrev μ-loop : tie.MeasureT-loop
 μ-loop file n e count b₀ b = count - b
@@ -23,13 +23,13 @@ blocks-in-requires : tie.Need-blocks-in-requires Inv-loop μ-loop
 blocks-in-requires c κs = search needs
 
 loop-holds : tie.Need-loop-holds Inv-loop μ-loop
-loop-holds c = passed-none
+loop-holds c = before-first
 
 unused-are-zero-requires : tie.Need-unused-are-zero-requires Inv-loop μ-loop
 unused-are-zero-requires c κs = (record { fits = omega (arith, ((c .before .before) .blocks-in .ensures)) }, record { groups = (c .before .before .before .before) .n-in .ensures .1; links = (c .before .before .before) .e-in .ensures .1; block = omega (arith, ((c .before .before) .blocks-in .ensures)) })
 
 returns : tie.Need-returns Inv-loop μ-loop
-returns c = lowest-at ((c .before .before .before) .loop .inv) (omega (arith, ((c .before .before .before .before) .blocks-in .ensures))) (told-not ((c .before) .unused-are-zero .result) (not-true _ (c .if1 .taken)) (rw ((c .before .before .before .before .before .before) .n-in .ensures .0, (c .before .before .before .before .before) .e-in .ensures .0) at ((c .before) .unused-are-zero .ensures)))
+returns c = found-here (omega (arith, ((c .before .before .before .before) .blocks-in .ensures))) ((c .before .before .before) .loop .inv) (told-not ((c .before) .unused-are-zero .result) (not-true _ (c .if1 .taken)) (rw ((c .before .before .before .before .before .before) .n-in .ensures .0, (c .before .before .before .before .before) .e-in .ensures .0) at ((c .before) .unused-are-zero .ensures)))
 
 add-b : tie.Need-add-b Inv-loop μ-loop
 add-b c = omega arith
@@ -38,10 +38,10 @@ loop-less : tie.Need-loop-less Inv-loop μ-loop
 loop-less c = omega arith
 
 loop-again : tie.Need-loop-again Inv-loop μ-loop
-loop-again c = passed-more ((c .before .before .before) .loop .inv) (λ d. d (told ((c .before) .unused-are-zero .result) (not-false _ (c .if1 .left)) (rw ((c .before .before .before .before .before .before) .n-in .ensures .0, (c .before .before .before .before .before) .e-in .ensures .0) at ((c .before) .unused-are-zero .ensures))))
+loop-again c = before-next ((c .before .before .before) .loop .inv) (λ d. d (told ((c .before) .unused-are-zero .result) (not-false _ (c .if1 .left)) (rw ((c .before .before .before .before .before .before) .n-in .ensures .0, (c .before .before .before .before .before) .e-in .ensures .0) at ((c .before) .unused-are-zero .ensures))))
 
 returns-2 : tie.Need-returns-2 Inv-loop μ-loop
-returns-2 c = all-passed ((c .before) .loop .inv) (omega (arith, ((c .before .before) .blocks-in .ensures)))
+returns-2 c = found-none (omega (arith, ((c .before .before) .blocks-in .ensures))) ((c .before) .loop .inv)
 
 pub first-bad-unused-spec : {M : Type 1} → statement M
 first-bad-unused-spec =
