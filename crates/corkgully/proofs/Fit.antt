@@ -12,7 +12,7 @@ use Rattle.survey.proofs.Verdicts.{fine-clear, clear-fine}
 use Rattle.words.specs.Words.{Bytes}
 use Rattle.words.proofs.WordLaws.{word-below}
 use Rattle.refusals.specs.Packed.{SmallReading}
-use Rattle.reader.proofs.FileLaws.{clear-fits}
+use Rattle.reader.proofs.FileLaws.{clear-range}
 use Rattle.reader.proofs.Readings.{blocks-clear}
 
 pub reading-small : {f groups links : List ℕ} (r : Reading) {groups′ links′ : List ℕ} → Bytes f → ReaderSays f groups links r groups′ links′ → SmallReading r
@@ -21,5 +21,5 @@ reading-small {f} {groups} {links} (Reading.Refused r) b says =
     let small : SmallBy (2 ^ 32) r = reader-small f groups links (omega (arith, word-below b 8)) (omega (arith, word-below b 12)) (says .verdict) in
     record { number = small .number; place = omega (arith, small .place) }
 reading-small {f} {groups} {links} (Reading.Survey n e) b says =
-    let fits = clear-fits f (blocks-clear f (clear-fine (fileFaults f) (fine-clear (readerFaults f groups links) (says .verdict) .1))) in
+    let fits = clear-range f (blocks-clear f (clear-fine (fileFaults f) (fine-clear (readerFaults f groups links) (says .verdict) .1))) in
     record { groups = omega (arith, says .lists .0, fits .groups); links = omega (arith, says .lists .1, fits .links) }

@@ -1,7 +1,7 @@
 -- How the reader's answers come together.
 use Prim.Native.Nat.{ℕ, _+_, _*_, _≤_, _<_}
 use native.Mathlib.Omega.{arith}
-use mathlib.Core.Path.{_≡_, refl, ap}
+use mathlib.Core.Path.{_≡_, refl}
 use mathlib.Core.Logic.{inl, inr}
 use mathlib.Core.List.{List, [], _∷_, _++_}
 use Rattle.survey.specs.declared.answers.Reading.{Reading}
@@ -12,12 +12,12 @@ use Rattle.survey.specs.SurveyFile.{nIn, eIn, firstLinkBlock, surveyIn}
 use Rattle.survey.specs.Refusals.{fine, refused, Fault, Clear, AllClear, Answers}
 use Rattle.survey.specs.Faults.{OneShort, tooShort, groupList, linkList, surveyFaults, fileFaults}
 use Rattle.survey.specs.Promises.{Filled, ReaderSays}
-use Rattle.survey.proofs.Verdicts.{given, past, fine-clear}
+use Rattle.survey.proofs.Verdicts.{past, fine-clear}
 use Rattle.entries.specs.Entries.{stand}
 use Rattle.refusals.specs.Packed.{refusalWhole}
+use Rattle.refusals.proofs.Looking.{stop-whole, whole-clear}
 use Rattle.blocks.specs.FileFaults.{blockFaults}
 use Rattle.reader.specs.Lent.{ListsShort}
-use Rattle.reader.proofs.FileLaws.{clear-fits}
 
 -- none of some faults, and so none of the first of them
 clear-before : (fs gs : List Fault) → AllClear (fs ++ gs) → AllClear fs
@@ -45,21 +45,11 @@ link-room g l d = at (λ h. d (inr (inl h)))
 
 module _ (f g l : List ℕ) where
   pub lists-refused : {r : Refusal} → ListsShort g l → r ≡ refusalWhole 1 → ReaderSays f g l (Reading.Refused r) g l
-  lists-refused h e =
-      record {
-        verdict =
-            given
-            (record {
-              lowestPlace = 0;
-              lowest = record { below = omega arith; fault = h; first = λ j k x. absurd (omega arith) };
-              is = ap refused e;
-            });
-        lists = (refl, refl);
-      }
+  lists-refused h e = record { verdict = stop-whole h e; lists = (refl, refl) }
 
   module _ (d : ListsShort g l → ⊥) where
     long-enough : Clear (tooShort (groupList (entries g) ∷ linkList (entries l) ∷ []))
-    long-enough = record { none = λ k h x. d x }
+    long-enough = whole-clear d
 
     pub file-refused : {r : Refusal} → Answers (fileFaults f) (refused r) → ReaderSays f g l (Reading.Refused r) g l
     file-refused a = record { verdict = past long-enough a; lists = (refl, refl) }

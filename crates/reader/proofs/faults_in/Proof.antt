@@ -1,5 +1,5 @@
 -- `reader::faults_in` meets its contract. A file whose blocks have no fault has room for its entries, and is then admitted or not. Assumes nothing.
-use Rattle.reader.proofs.FileLaws.{clear-fits, header-within, groups-fit, links-fit, then-survey}
+use Rattle.reader.proofs.FileLaws.{header-within, groups-fit, links-fit, then-survey}
 use Rattle.blocks.specs.FileFaults.{blockFaults}
 use Rattle.survey.proofs.Verdicts.{early, fine-clear}
 use Rattle.survey.specs.Faults.{surveyFaults}
@@ -22,10 +22,10 @@ enum-told : tie.Need-enum-told
 enum-told c = search needs
 
 n-in-requires : tie.Need-n-in-requires
-n-in-requires c κs = header-within (clear-fits (now ((c .before .before .before .before) .args .file)) (fine-clear (blockFaults (now ((c .before .before .before .before) .args .file))) (rw (c .enum-told .given .1) at ((c .before .before) .block-faults .ensures))))
+n-in-requires c κs = header-within (now ((c .before .before .before .before) .args .file)) (fine-clear (blockFaults (now ((c .before .before .before .before) .args .file))) (rw (c .enum-told .given .1) at ((c .before .before) .block-faults .ensures)))
 
 e-in-requires : tie.Need-e-in-requires
-e-in-requires c κs = header-within (clear-fits (now ((c .before .before .before .before .before) .args .file)) (fine-clear (blockFaults (now ((c .before .before .before .before .before) .args .file))) (rw ((c .before) .enum-told .given .1) at ((c .before .before .before) .block-faults .ensures))))
+e-in-requires c κs = header-within (now ((c .before .before .before .before .before) .args .file)) (fine-clear (blockFaults (now ((c .before .before .before .before .before) .args .file))) (rw ((c .before) .enum-told .given .1) at ((c .before .before .before) .block-faults .ensures)))
 
 link-base-requires : tie.Need-link-base-requires
 link-base-requires c κs = search needs

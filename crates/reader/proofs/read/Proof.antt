@@ -1,6 +1,6 @@
 -- `reader::read` meets its contract. The lists are looked at, then the file, and only then filled. Assumes nothing.
 use Rattle.reader.proofs.Readings.{blocks-clear, group-room, link-room, lists-refused, file-refused, file-read}
-use Rattle.reader.proofs.FileLaws.{clear-fits, header-within, groups-fillable, links-fillable}
+use Rattle.reader.proofs.FileLaws.{header-within, groups-fillable, links-fillable}
 use denote.Ref.{now}
 use borrow.Author.Needs.{needs}
 use Rattle.reader.proofs.read.Statement.{statement}
@@ -40,10 +40,10 @@ enum-told : tie.Need-enum-told
 enum-told c = search needs
 
 n-in-requires : tie.Need-n-in-requires
-n-in-requires c κs = header-within (clear-fits (now ((c .before .before .before .before .before .before .before .before .before .before) .args .file)) (blocks-clear (now ((c .before .before .before .before .before .before .before .before .before .before) .args .file)) (rw (c .enum-told .given .1) at ((c .before .before) .faults-in .ensures))))
+n-in-requires c κs = header-within (now ((c .before .before .before .before .before .before .before .before .before .before) .args .file)) (blocks-clear (now ((c .before .before .before .before .before .before .before .before .before .before) .args .file)) (rw (c .enum-told .given .1) at ((c .before .before) .faults-in .ensures)))
 
 e-in-requires : tie.Need-e-in-requires
-e-in-requires c κs = header-within (clear-fits (now ((c .before .before .before .before .before .before .before .before .before .before .before) .args .file)) (blocks-clear (now ((c .before .before .before .before .before .before .before .before .before .before .before) .args .file)) (rw ((c .before) .enum-told .given .1) at ((c .before .before .before) .faults-in .ensures))))
+e-in-requires c κs = header-within (now ((c .before .before .before .before .before .before .before .before .before .before .before) .args .file)) (blocks-clear (now ((c .before .before .before .before .before .before .before .before .before .before .before) .args .file)) (rw ((c .before) .enum-told .given .1) at ((c .before .before .before) .faults-in .ensures)))
 
 link-base-requires : tie.Need-link-base-requires
 link-base-requires c κs = search needs
