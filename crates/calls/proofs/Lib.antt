@@ -1,0 +1,2 @@
+-- The laws of a call's admission.
+pub mod CallLaws

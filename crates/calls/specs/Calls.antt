@@ -1,0 +1,17 @@
+-- An admitted call of the chooser or the checker.
+use Prim.Native.Nat.{ℕ, _*_, _≤_}
+use mathlib.Core.List.{List}
+use lib.ListN.{length}
+use Rattle.survey.specs.Limits.{groupLimit, linkLimit, entryBytes}
+use Rattle.survey.specs.Words.{surveyOf}
+use Rattle.survey.proofs.Admitted.{Sound}
+
+-- Each list has its n or e entries, and the survey is one that document 01 admits.
+pub record AdmittedCall (n e : ℕ) (groups links marks amounts : List ℕ) : Type 0 where
+  pub few-groups : n ≤ groupLimit
+  pub few-links : e ≤ linkLimit
+  pub groups-long : entryBytes * n ≤ length groups
+  pub links-long : entryBytes * e ≤ length links
+  pub marks-long : n ≤ length marks
+  pub amounts-long : entryBytes * e ≤ length amounts
+  pub sound : Sound (surveyOf n e groups links)

@@ -1,0 +1,209 @@
+-- What the checker's promise comes to, in document 01's words: what it accepts is the pick, it accepts exactly what the balance rule accepts,
+-- it has one answer to each call, and refusal 18 always has its place.
+use Prim.Native.Nat.{ℕ, _≤_, _<_}
+use native.Mathlib.Decide.{ℕ-discrete}
+use native.Mathlib.Omega.{arith}
+use mathlib.Core.Path.{_≡_, refl}
+use mathlib.Core.Logic.{_⊎_, inl, inr}
+use mathlib.Core.List.{List, [], _∷_, _++_}
+use lib.ListN.{getD}
+use Rattle.survey.specs.declared.answers.Refusal.{Refusal}
+use Rattle.survey.specs.declared.answers.Judgement.{Judgement}
+use Rattle.survey.specs.Limits.{amountLimit}
+use Rattle.survey.specs.Survey.{Survey}
+use Rattle.survey.specs.Sets.{Set, In, Out, Contains, Eligible}
+use Rattle.survey.specs.Pick.{IsPick}
+use Rattle.survey.specs.Rounds.{weights}
+use Rattle.survey.specs.Balance.{Amounts, LargestSettled, Accepted}
+use Rattle.survey.specs.Words.{surveyAt, surveyOf, markedSet, amountsOf}
+use Rattle.survey.specs.Refusals.{Verdict, refused, Fault, Clear, Given, AllClear, Answers}
+use Rattle.survey.specs.Faults.{badMark, badAmount, notClosed, nothingDead, balanceAbove, notLargest, listFaults, claimFaults, chooserFaults, checkerFaults, Admitted}
+use Rattle.survey.specs.Answers.{judgementVerdict}
+use Rattle.survey.proofs.Verdicts.{past, none-left, clear-fine, fine-clear, afterwards, answers-one}
+use Rattle.survey.proofs.Small.{look, look-on}
+use Rattle.survey.proofs.Reaching.{Inside}
+use Rattle.survey.proofs.Totals.{by-test}
+use Rattle.survey.proofs.BalanceRule.{claimed-within, accepted-pick}
+use Rattle.survey.proofs.Claims.{ClaimClear, clear-accepted, accepted-clear}
+use Rattle.refusals.specs.Packed.{refusalAt}
+use Rattle.refusals.proofs.Looking.{whole-clear}
+use Rattle.calls.specs.Calls.{AdmittedCall}
+use Rattle.calls.proofs.CallLaws.{LongEnough, long-enough, call-clear, admitted-call}
+
+-- ---- faults that stand one after the other
+
+clear-parts : (fs gs : List Fault) → AllClear (fs ++ gs) → AllClear fs × AllClear gs
+unfolding AllClear
+clear-parts [] gs c = (tt, c)
+clear-parts (f ∷ fs) gs c = let rest = clear-parts fs gs (c .1) in ((c .0, rest .0), rest .1)
+
+-- past faults that are not there
+on-past : (fs gs : List Fault) {v : Verdict} → AllClear fs → Answers (fs ++ gs) v → Answers gs v
+unfolding AllClear
+on-past [] gs c a = a
+on-past (f ∷ fs) gs c a = on-past fs gs (c .1) (look-on f (fs ++ gs) (c .0) a)
+
+-- ---- the answer
+
+verdict-one : (r r′ : Judgement) → judgementVerdict r ≡ judgementVerdict r′ → r ≡ r′
+verdict-one (Judgement.Refused r) (Judgement.Refused r′) e = cc
+verdict-one (Judgement.Refused r) Judgement.Accepted e = let z : _≡_ {A = ℕ} 0 1 = cc in absurd (omega arith)
+verdict-one Judgement.Accepted (Judgement.Refused r′) e = let z : _≡_ {A = ℕ} 0 1 = cc in absurd (omega arith)
+verdict-one Judgement.Accepted Judgement.Accepted e = refl
+
+module _ (n e : ℕ) (groups links marks amounts : List ℕ) where
+  -- What the checker promises of its answer to a call.
+  abbrev pub Checks : Judgement → Type 0
+  Checks r = Answers (checkerFaults n e groups links marks amounts) (judgementVerdict r)
+
+  -- Two answers to a call that the promise allows are equal.
+  pub check-one : (r r′ : Judgement) → Checks r → Checks r′ → r ≡ r′
+  check-one r r′ a b = verdict-one r r′ (answers-one (checkerFaults n e groups links marks amounts) a b)
+
+  -- What document 01 asks of a claim that is to be accepted, refusals and balance rule together.
+  pub record Acceptable : Type 0 where
+    -- no lent list is shorter than 128 (groups) or 1,024 (links)
+    pub long : LongEnough groups links marks amounts
+    -- "A survey is admitted when it has .., given as lists, none of 5 and 8 to 12."
+    pub admitted : Admitted (surveyOf n e groups links)
+    -- "one mark per group (1 in the set, 0 not) and one amount per link, from 0 to 20,000,000,000,000,000"
+    pub marks-good : (g : ℕ) → g < n → (getD marks g 0 ≡ 0) ⊎ (getD marks g 0 ≡ 1)
+    pub amounts-good : (k : ℕ) → k < e → amountsOf amounts k ≤ amountLimit
+    -- "The claim is accepted exactly when .."
+    pub rule : Accepted (surveyOf n e groups links) (markedSet marks) (amountsOf amounts)
+
+  claim-clear : Checks Judgement.Accepted → AllClear (chooserFaults n e groups links marks amounts) × AllClear (claimFaults (surveyOf n e groups links) marks (amountsOf amounts))
+  claim-clear a =
+      clear-parts (chooserFaults n e groups links marks amounts) (claimFaults (surveyOf n e groups links) marks (amountsOf amounts))
+      (fine-clear (checkerFaults n e groups links marks amounts) a)
+
+  call-of : Checks Judgement.Accepted → AdmittedCall n e groups links marks amounts
+  call-of a = admitted-call groups links marks amounts n e (clear-fine (chooserFaults n e groups links marks amounts) (claim-clear a .0))
+
+  rule-of : Checks Judgement.Accepted → Accepted (surveyOf n e groups links) (markedSet marks) (amountsOf amounts)
+  unfolding AllClear
+  rule-of a =
+      let c = claim-clear a .1 in
+      clear-accepted (surveyOf n e groups links) (markedSet marks) (amountsOf amounts) (call-of a .sound .inside)
+      (record { closed = c .1 .1 .0; dead = c .1 .1 .1 .0; balances = c .1 .1 .1 .1 .0; largest = c .1 .1 .1 .1 .1 .0 })
+
+  -- What the checker accepts is the pick.
+  pub accepted-is-pick : Checks Judgement.Accepted → IsPick (surveyOf n e groups links) (markedSet marks)
+  accepted-is-pick a = accepted-pick (call-of a .sound .inside) (rule-of a)
+
+  -- The checker accepts exactly what is acceptable.
+  pub accepted-acceptable : Checks Judgement.Accepted → Acceptable
+  unfolding AllClear surveyAt
+  accepted-acceptable a =
+      let c = claim-clear a .1 in
+      let call = call-clear groups links marks amounts n e (clear-fine (chooserFaults n e groups links marks amounts) (claim-clear a .0)) in
+      record {
+        long = call .0;
+        admitted = call .1;
+        marks-good = λ g l. good (getD marks g 0) (c .0 .none g l);
+        amounts-good = λ k l. within (c .1 .0 .none k l);
+        rule = rule-of a;
+      }
+    where
+      good : (x : ℕ) → (((x ≡ 0) ⊎ (x ≡ 1) → ⊥) → ⊥) → (x ≡ 0) ⊎ (x ≡ 1)
+      good x d = at (ℕ-discrete x 0) (ℕ-discrete x 1)
+        where
+          at : Dec (x ≡ 0) → Dec (x ≡ 1) → (x ≡ 0) ⊎ (x ≡ 1)
+          at (yes z) y = inl z
+          at (no z) (yes y) = inr y
+          at (no z) (no y) = absurd (d (λ (w : (x ≡ 0) ⊎ (x ≡ 1)). neither w))
+            where
+              neither : (x ≡ 0) ⊎ (x ≡ 1) → ⊥
+              neither (inl w) = z w
+              neither (inr w) = y w
+
+      within : {x : ℕ} → (amountLimit < x → ⊥) → x ≤ amountLimit
+      within d = omega arith
+
+  pub acceptable-accepted : Acceptable → Checks Judgement.Accepted
+  unfolding AllClear surveyAt
+  acceptable-accepted x =
+      past (whole-clear (long-enough groups links marks amounts (x .long)))
+      (afterwards (listFaults (surveyOf n e groups links)) (x .admitted .clear)
+      (past (record { none = λ g l d. d (x .marks-good g l) })
+      (past (record { none = λ k l h. omega (arith, x .amounts-good k l) })
+      (past (claim .closed) (past (claim .dead) (past (claim .balances) (past (claim .largest) none-left)))))))
+    where
+      claim : ClaimClear (surveyOf n e groups links) (markedSet marks) (amountsOf amounts)
+      claim = accepted-clear (surveyOf n e groups links) (markedSet marks) (amountsOf amounts) (x .rule)
+
+  pub accepted-iff : (Checks Judgement.Accepted → Acceptable) × (Acceptable → Checks Judgement.Accepted)
+  accepted-iff = (accepted-acceptable, acceptable-accepted)
+
+  -- ---- refusal 18
+
+  -- 1, 5 and 8 to 17
+  abbrev pub before18 : List Fault
+  before18 =
+      chooserFaults n e groups links marks amounts
+      ++ (badMark (surveyOf n e groups links) marks
+      ∷ badAmount (surveyOf n e groups links) (amountsOf amounts)
+      ∷ notClosed (surveyOf n e groups links) (markedSet marks)
+      ∷ nothingDead (surveyOf n e groups links) (markedSet marks)
+      ∷ balanceAbove (surveyOf n e groups links) (markedSet marks) (amountsOf amounts)
+      ∷ [])
+
+  -- A refusal 18: "lowest group that is in the largest set and not in the claimed one", and the claimed set lies in the largest.
+  pub record Refused18 (r : Judgement) : Type 0 where
+    pub group : ℕ
+    pub is : r ≡ Judgement.Refused (refusalAt 18 group)
+    pub largestSet : Set
+    pub largest : LargestSettled (surveyOf n e groups links) (weights (surveyOf n e groups links) (markedSet marks)) (amountsOf amounts) largestSet
+    pub contains : Contains (surveyOf n e groups links) largestSet (markedSet marks)
+    pub below : group < n
+    pub inside : In largestSet group
+    pub out : Out (markedSet marks) group
+    pub first : (j : ℕ) → j < group → In largestSet j → Out (markedSet marks) j → ⊥
+
+  -- A claim that passes every row up to 17 and that the rule does not accept is refused 18, and the group is there to be named.
+  pub refusal-18-has-its-place : (r : Judgement) → Checks r → AllClear before18 → (Accepted (surveyOf n e groups links) (markedSet marks) (amountsOf amounts) → ⊥) → Refused18 r
+  unfolding AllClear surveyAt
+  refusal-18-has-its-place r a c not =
+      at (look (notLargest s S x) [] (on-past before18 (notLargest s S x ∷ []) c a))
+    where
+      s : Survey
+      s = surveyOf n e groups links
+
+      S : Set
+      S = markedSet marks
+
+      x : Amounts
+      x = amountsOf amounts
+
+      parts : AllClear (chooserFaults n e groups links marks amounts) × AllClear (badMark s marks ∷ badAmount s x ∷ notClosed s S ∷ nothingDead s S ∷ balanceAbove s S x ∷ [])
+      parts = clear-parts (chooserFaults n e groups links marks amounts) (badMark s marks ∷ badAmount s x ∷ notClosed s S ∷ nothingDead s S ∷ balanceAbove s S x ∷ []) c
+
+      inside : Inside s
+      inside = admitted-call groups links marks amounts n e (clear-fine (chooserFaults n e groups links marks amounts) (parts .0)) .sound .inside
+
+      eligible : Eligible s S
+      eligible =
+          record {
+            closed =
+                record { back = λ k l m. by-test (S (s .link k .from)) (λ y. y) (λ z. absurd (parts .1 .1 .1 .0 .none k l (z, m))) };
+          }
+
+      answer : (r : Judgement) {y : Refusal} → judgementVerdict r ≡ refused y → r ≡ Judgement.Refused y
+      answer (Judgement.Refused y′) q = cc
+      answer Judgement.Accepted q = let z : _≡_ {A = ℕ} 0 1 = cc in absurd (omega arith)
+
+      at : Given (notLargest s S x) (judgementVerdict r) ⊎ (Clear (notLargest s S x) × Answers [] (judgementVerdict r)) → Refused18 r
+      at (inl g) =
+          let f = g .lowest .fault in
+          record {
+            group = g .lowestPlace;
+            is = answer r (g .is);
+            largestSet = f .largestSet;
+            largest = f .largest;
+            contains = claimed-within inside S x (parts .1 .1 .1 .1 .1 .0 .none) eligible (f .largest);
+            below = g .lowest .below;
+            inside = f .inside;
+            out = f .outside;
+            first = λ j l y z. g .lowest .first j l (record { largestSet = f .largestSet; largest = f .largest; inside = y; outside = z });
+          }
+      at (inr q) = absurd (not (clear-accepted s S x inside (record { closed = parts .1 .1 .1 .0; dead = parts .1 .1 .1 .1 .0; balances = parts .1 .1 .1 .1 .1 .0; largest = q .0 })))

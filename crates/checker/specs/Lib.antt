@@ -1,0 +1,4 @@
+-- What the checker's parts say beyond crates/survey.
+pub mod Claims
+pub mod Balances
+pub mod Largest

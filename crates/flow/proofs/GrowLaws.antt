@@ -1,0 +1,198 @@
+-- Laws of the growing: one step after the other, a group that joins, and what is seen to in the end.
+use Prim.Native.Nat.{ℕ, _+_, _-_, _<_, _≤_}
+use mathlib.Core.Path.{_≡_, refl, sym, ap, _∙_}
+use mathlib.Core.List.{List}
+use mathlib.Core.Bool.{Bool, true, false}
+use native.Mathlib.Omega.{arith}
+use lib.ListN.{length, getD, set, length-set}
+use lib.Seq.{getD-set-same, getD-set-other}
+use lib.Dec.{ltb}
+use borrow.Author.Tests.{ltb-true, ltb-false}
+use Rattle.survey.specs.Survey.{Survey}
+use Rattle.survey.specs.Balance.{Amounts}
+use Rattle.survey.specs.Words.{amountsOf}
+use Rattle.flow.specs.Drains.{Net, Placed, Room, Way, pays, gives-back, Hop, Joinable, Growing, Joins, joined, was, JoinsBack, gave, shut, Grew, GrewForth, GrewBack}
+use Rattle.flow.specs.Links.{endOf, bare}
+use Rattle.flow.proofs.ChainLaws.{Walking, walk-begins, walk-on}
+use Rattle.flow.proofs.JoinLaws.{placed-room, joined-placed, kept-order, new-order, kept-marks}
+
+module _ {s : Survey} {x : Amounts} where
+  pub grew-none : {t order by : List ℕ} {c : ℕ} → Placed (s .n) t order c → Grew s x t order by c t order by c
+  grew-none p =
+      record {
+        placed = p;
+        more = omega arith;
+        order-same = λ i h. refl;
+        by-same = λ i h. refl;
+        hops = λ i h k. absurd (omega arith);
+        marks = λ g m. m;
+        rest = λ g h. refl;
+        t-long = refl;
+        order-long = refl;
+        by-long = refl;
+      }
+
+  -- a hop stays one while the places before it stay
+  hop-stays :
+      {order by order′ by′ : List ℕ} {c i : ℕ} → ((j : ℕ) → j < c → getD order′ j 0 ≡ getD order j 0) → ((j : ℕ) → j < c → getD by′ j 0 ≡ getD by j 0) → i < c → Hop s x order by i
+      → Hop s x order′ by′ i
+  hop-stays same by-same h p =
+      record {
+        link = rw (by-same _ h) (p .link);
+        earlier = p .earlier;
+        before = p .before;
+        way = rw (by-same _ h, same _ h, same (p .earlier) (omega (arith, p .before))) (p .way);
+      }
+
+  pub grew-on :
+      {t order by t′ order′ by′ t″ order″ by″ : List ℕ} {c c′ c″ : ℕ} → Grew s x t order by c t′ order′ by′ c′ → Grew s x t′ order′ by′ c′ t″ order″ by″ c″
+      → Grew s x t order by c t″ order″ by″ c″
+  grew-on {order″ = order″} {by″ = by″} {c = c} {c′ = c′} {c″ = c″} a b =
+      record {
+        placed = b .placed;
+        more = omega (arith, a .more, b .more);
+        order-same = λ i h. b .order-same i (omega (arith, a .more)) ∙ a .order-same i h;
+        by-same = λ i h. b .by-same i (omega (arith, a .more)) ∙ a .by-same i h;
+        hops = λ i h k. go i h k (ltb i c′) refl;
+        marks = λ g m. b .marks g (a .marks g m);
+        rest = λ g h. b .rest g h ∙ a .rest g h;
+        t-long = b .t-long ∙ a .t-long;
+        order-long = b .order-long ∙ a .order-long;
+        by-long = b .by-long ∙ a .by-long;
+      }
+    where
+      go : (i : ℕ) → c ≤ i → i < c″ → (t : Bool) → ltb i c′ ≡ t → Hop s x order″ by″ i
+      go i h k true e = let l = ltb-true i c′ e in hop-stays (b .order-same) (b .by-same) l (a .hops i h l)
+      go i h k false e = b .hops i (ltb-false i c′ e) k
+
+  -- Group g joins through link k to p, which has joined.
+  pub joins-grew :
+      {t order by t′ order′ by′ : List ℕ} {c c′ g k p : ℕ} → Room (s .n) t order by → Placed (s .n) t order c → g < s .n → k < s .e → p < s .n → getD t p 0 ≡ 1 → Way s x k g p
+      → Joins g k t order by c t′ order′ by′ c′ → Grew s x t order by c t′ order′ by′ c′
+  joins-grew room at below link group mark way (was d) = grew-none at
+  joins-grew {t} {order} {by} {c = c} {g = g} {k} {p} room at below link group mark way (joined z) =
+      record {
+        placed = joined-placed at below z here fits;
+        more = omega arith;
+        order-same = kept-order at below z here fits;
+        by-same = λ i h. getD-set-other by c i k 0 (λ q. omega arith);
+        hops = λ i h l. hop i (omega arith);
+        marks = kept-marks at below z here fits;
+        rest = λ h l. getD-set-other t g h 1 0 (λ q. omega arith);
+        t-long = length-set t g 1;
+        order-long = length-set order c g;
+        by-long = length-set by c k;
+      }
+    where
+      here : g < length t
+      here = omega (arith, room .t-long)
+
+      fits : c < length order
+      fits = omega (arith, placed-room at g below z, room .order-long)
+
+      by-fits : c < length by
+      by-fits = omega (arith, placed-room at g below z, room .by-long)
+
+      hop : (i : ℕ) → i ≡ c → Hop s x (set order c g) (set by c k) i
+      hop i e =
+          let f = at .cover p group mark in
+          rw e
+          (record {
+            link = rw (getD-set-same by c k 0 by-fits) link;
+            earlier = f .0;
+            before = f .1;
+            way = rw (getD-set-same by c k 0 by-fits, new-order at below z here fits, kept-order at below z here fits (f .0) (f .1), f .2) way;
+          })
+
+-- and is marked then
+pub joins-marked : {n c c′ g k : ℕ} {t order by t′ order′ by′ : List ℕ} → Placed n t order c → g < n → g < length t → Joins g k t order by c t′ order′ by′ c′ → getD t′ g 0 ≡ 1
+joins-marked {g = g} {t = t} at below here (joined z) = getD-set-same t g 1 0 here
+joins-marked {g = g} at below here (was d) = omega (arith, at .bits g below)
+
+-- ---- along a chain of g, which has joined: each step of the walk lets one more join
+
+-- the lists are as long as before
+pub grew-room : {s : Survey} {x : Amounts} {t order by t′ order′ by′ : List ℕ} {c c′ : ℕ} → Grew s x t order by c t′ order′ by′ c′ → Room (s .n) t order by → Room (s .n) t′ order′ by′
+grew-room a r =
+    record {
+      t-long = omega (arith, a .t-long, r .t-long);
+      order-long = omega (arith, a .order-long, r .order-long);
+      by-long = omega (arith, a .by-long, r .by-long);
+    }
+
+-- a group that may or may not have joined has room to
+pub joinable : {n e c g k : ℕ} {links t order by : List ℕ} → Net n e links → Room n t order by → Placed n t order c → g < n → k < e → Joinable g k t order by c
+joinable {g = g} net room at below link =
+    record {
+      few-groups = omega (arith, net .few-groups);
+      few-links = omega (arith, net .few-links);
+      within = omega (arith, room .t-long);
+      room = λ z. let c = placed-room at g below z in (omega (arith, room .order-long), omega (arith, room .by-long));
+    }
+
+-- the walk along the links from g, at link k
+pub record WalkingForth (n e g : ℕ) (links t order by : List ℕ) (c : ℕ) (t′ order′ by′ : List ℕ) (c′ k : ℕ) : Type 0 where
+  pub grew : (x : Amounts) → Grew (bare n e links) x t order by c t′ order′ by′ c′
+  pub walk : Walking e (endOf links 0) (endOf links 4) (λ i. Unit) g k t′
+
+-- the walk along the links to g, at link k
+pub record WalkingBack (n e g : ℕ) (links amounts t order by : List ℕ) (c : ℕ) (t′ order′ by′ : List ℕ) (c′ k : ℕ) : Type 0 where
+  pub grew : Grew (bare n e links) (amountsOf amounts) t order by c t′ order′ by′ c′
+  pub walk : Walking e (endOf links 4) (endOf links 0) (λ i. 0 < amountsOf amounts i) g k t′
+
+module _ {n e g : ℕ} {links head next t₀ order₀ by₀ : List ℕ} {c₀ : ℕ} where
+  pub forth-begins : Growing 0 n e g links head next t₀ order₀ by₀ c₀ → WalkingForth n e g links t₀ order₀ by₀ c₀ t₀ order₀ by₀ c₀ (getD head g 0)
+  forth-begins p = record { grew = λ x. grew-none (p .placed); walk = walk-begins (p .index .chains .heads g (p .below)) }
+
+  pub forth-on :
+      {t order by t′ order′ by′ : List ℕ} {c c′ k q : ℕ} → Growing 0 n e g links head next t₀ order₀ by₀ c₀ → WalkingForth n e g links t₀ order₀ by₀ c₀ t order by c k → k < e
+      → q ≡ endOf links 4 k → Joins q k t order by c t′ order′ by′ c′ → WalkingForth n e g links t₀ order₀ by₀ c₀ t′ order′ by′ c′ (getD next k 0)
+  forth-on {t} {order} {by} {t′} {order′} {by′} {c} {c′} {k} {q} p w l z j =
+      record { grew = λ x. grew-on (w .grew x) (step x); walk = walk-on (w .walk) (step (λ i. 0) .marks) (λ u. rw z at here) l (p .index .chains .nexts k l) }
+    where
+      old : Grew (bare n e links) (λ i. 0) t₀ order₀ by₀ c₀ t order by c
+      old = w .grew (λ i. 0)
+
+      below : q < n
+      below = rw z (p .net .to k l)
+
+      here : getD t′ q 0 ≡ 1
+      here = joins-marked (old .placed) below (omega (arith, below, old .t-long, p .room .t-long)) j
+
+      step : (x : Amounts) → Grew (bare n e links) x t order by c t′ order′ by′ c′
+      step x =
+          joins-grew (grew-room old (p .room)) (old .placed) below l (p .below) (old .marks g (p .joined))
+          (pays (sym z) (w .walk .hit l)) j
+
+  pub back-begins : {amounts : List ℕ} → Growing 4 n e g links head next t₀ order₀ by₀ c₀ → WalkingBack n e g links amounts t₀ order₀ by₀ c₀ t₀ order₀ by₀ c₀ (getD head g 0)
+  back-begins p = record { grew = grew-none (p .placed); walk = walk-begins (p .index .chains .heads g (p .below)) }
+
+  pub back-on :
+      {amounts t order by t′ order′ by′ : List ℕ} {a c c′ k q : ℕ} → Growing 4 n e g links head next t₀ order₀ by₀ c₀ → WalkingBack n e g links amounts t₀ order₀ by₀ c₀ t order by c k → k < e
+      → a ≡ amountsOf amounts k → q ≡ endOf links 0 k → JoinsBack a q k t order by c t′ order′ by′ c′ → WalkingBack n e g links amounts t₀ order₀ by₀ c₀ t′ order′ by′ c′ (getD next k 0)
+  back-on {amounts} {t} {order} {by} {t′} {order′} {by′} {c} {c′} {k} {q} p w l y z (gave o j) =
+      record { grew = grew-on (w .grew) step; walk = walk-on (w .walk) (step .marks) (λ u. rw z at here) l (p .index .chains .nexts k l) }
+    where
+      below : q < n
+      below = rw z (p .net .from k l)
+
+      here : getD t′ q 0 ≡ 1
+      here = joins-marked (w .grew .placed) below (omega (arith, below, w .grew .t-long, p .room .t-long)) j
+
+      step : Grew (bare n e links) (amountsOf amounts) t order by c t′ order′ by′ c′
+      step =
+          joins-grew (grew-room (w .grew) (p .room)) (w .grew .placed) below l (p .below) (w .grew .marks g (p .joined))
+          (gives-back (sym z) (w .walk .hit l) (rw y at o)) j
+  back-on {amounts} {k = k} p w l y z (shut o) =
+      record { grew = w .grew; walk = walk-on (w .walk) (λ h m. m) (λ u. absurd (none u (sym y ∙ o))) l (p .index .chains .nexts k l) }
+    where
+      none : {m : ℕ} → 0 < m → m ≡ 0 → ⊥
+      none u v = omega arith
+
+module _ {n e g : ℕ} {links t₀ order₀ by₀ : List ℕ} {c₀ : ℕ} where
+  -- each link is seen to
+  pub forth-done : {t order by : List ℕ} {c k : ℕ} → e ≤ k → WalkingForth n e g links t₀ order₀ by₀ c₀ t order by c k → GrewForth n e g links t₀ order₀ by₀ c₀ t order by c
+  forth-done d w = record { grew = w .grew; seen = λ i l. w .walk .seen i (omega arith) tt }
+
+  pub back-done : {amounts t order by : List ℕ} {c k : ℕ} → e ≤ k → WalkingBack n e g links amounts t₀ order₀ by₀ c₀ t order by c k → GrewBack n e g links amounts t₀ order₀ by₀ c₀ t order by c
+  back-done d w = record { grew = w .grew; seen = λ i l. w .walk .seen i (omega arith) }

@@ -1,0 +1,147 @@
+-- Laws of joining: one group more in the order.
+use Prim.Native.Nat.{ℕ, _+_, _-_, _<_, _≤_}
+use mathlib.Core.Path.{_≡_, refl, sym, ap, _∙_}
+use mathlib.Core.List.{List}
+use mathlib.Core.Bool.{Bool, true, false}
+use native.Mathlib.Omega.{arith}
+use lib.ListN.{length, getD, set, length-set}
+use lib.Seq.{getD-set-same, getD-set-other, set-set}
+use lib.Dec.{eqb}
+use borrow.Author.Tests.{eqb-true, eqb-false}
+use Rattle.survey.specs.Sets.{sum}
+use Rattle.survey.proofs.Sums.{sum-cong, term-le}
+use Rattle.flow.specs.Drains.{Placed, Begun, Begins, lacking, level}
+use Rattle.flow.proofs.SumLaws.{sum-more, sum-change}
+
+-- ---- a list with one place set
+
+-- at the place it is the new value, elsewhere the old
+pub set-by :
+    (l : List ℕ) (i v : ℕ) (P : ℕ → ℕ → Type 0) → i < length l → P i v → ((j : ℕ) → (j ≡ i → ⊥) → P j (getD l j 0)) → (j : ℕ) → P j (getD (set l i v) j 0)
+set-by l i v P h at else j = go (eqb j i) refl
+  where
+    go : (t : Bool) → eqb j i ≡ t → P j (getD (set l i v) j 0)
+    go true e = rw (eqb-true j i e, getD-set-same l i v 0 h) at
+    go false e = rw (getD-set-other l i j v 0 (eqb-false j i e)) (else j (eqb-false j i e))
+
+-- ---- c groups placed
+
+pub placed-most : {n c : ℕ} {t order : List ℕ} → Placed n t order c → c ≤ n
+placed-most p = omega (arith, p .count)
+
+-- where a group has not joined, there is room for it
+pub placed-room : {n c : ℕ} {t order : List ℕ} → Placed n t order c → (g : ℕ) → g < n → getD t g 0 ≡ 0 → c < n
+placed-room {n} {c} {t} p g l z = omega (arith, p .count, term-le n (λ h. 1 - getD t h 0) g l)
+
+module _ {n c g : ℕ} {t order : List ℕ} (p : Placed n t order c) (l : g < n) (z : getD t g 0 ≡ 0) (here : g < length t) (room : c < length order) where
+  -- who had joined stands where it stood
+  pub kept-order : (i : ℕ) → i < c → getD (set order c g) i 0 ≡ getD order i 0
+  kept-order i h = getD-set-other order c i g 0 (λ q. omega arith)
+
+  -- it is at the new place
+  pub new-order : getD (set order c g) c 0 ≡ g
+  new-order = getD-set-same order c g 0 room
+
+  pub kept-marks : (h : ℕ) → getD t h 0 ≡ 1 → getD (set t g 1) h 0 ≡ 1
+  kept-marks = set-by t g 1 (λ h v. getD t h 0 ≡ 1 → v ≡ 1) here (λ q. refl) (λ j d q. q)
+
+  pub joined-placed : Placed n (set t g 1) (set order c g) (c + 1)
+  joined-placed =
+      record {
+        group = λ i h. set-by order c g (λ i v. i < c + 1 → v < n) room (λ q. l) (λ j d q. p .group j (omega arith)) i h;
+        marked = λ i h. set-by order c g (λ i v. i < c + 1 → getD (set t g 1) v 0 ≡ 1) room (λ q. new-mark) (λ j d q. kept-marks _ (p .marked j (omega arith))) i h;
+        once = λ i j h k same. twice i j h k same (eqb j c) refl;
+        cover = λ h k m. find h k m (eqb h g) refl;
+        bits = λ h k. set-by t g 1 (λ h v. h < n → v ≤ 1) here (λ q. omega arith) (λ j d q. p .bits j q) h k;
+        count = omega (arith, p .count, fewer);
+      }
+    where
+      new-mark : getD (set t g 1) g 0 ≡ 1
+      new-mark = getD-set-same t g 1 0 here
+
+      twice : (i j : ℕ) → i < j → j < c + 1 → getD (set order c g) i 0 ≡ getD (set order c g) j 0 → (b : Bool) → eqb j c ≡ b → ⊥
+      twice i j h k same true q =
+          let at : j ≡ c = eqb-true j c q in
+          let old : getD order i 0 ≡ g = sym (kept-order i (omega arith)) ∙ same ∙ ap (λ m. getD (set order c g) m 0) at ∙ new-order in
+          let mark : getD t g 0 ≡ 1 = rw old at (p .marked i (omega arith)) in
+          omega arith
+      twice i j h k same false q =
+          let other : j ≡ c → ⊥ = eqb-false j c q in
+          p .once i j h (omega arith) (sym (kept-order i (omega arith)) ∙ same ∙ kept-order j (omega arith))
+
+      find : (h : ℕ) → h < n → getD (set t g 1) h 0 ≡ 1 → (b : Bool) → eqb h g ≡ b → (i : ℕ) × (i < c + 1) × (getD (set order c g) i 0 ≡ h)
+      find h k m true q = (c, omega arith, new-order ∙ sym (eqb-true h g q))
+      find h k m false q =
+          let f = p .cover h k (sym (getD-set-other t g h 1 0 (eqb-false h g q)) ∙ m) in
+          (f .0, omega (arith, f .1), kept-order (f .0) (f .1) ∙ f .2)
+
+      fewer : sum n (λ h. 1 - getD t h 0) ≡ sum n (λ h. 1 - getD (set t g 1) h 0) + 1
+      fewer =
+          sum-change n (λ h. 1 - getD t h 0) (λ h. 1 - getD (set t g 1) h 0) g 1 l
+          (λ i k d. rw (getD-set-other t g i 1 0 d)) (rw (new-mark, z))
+
+-- ---- the groups that begin it, one after the other
+
+pub begun-none : (la t order : List ℕ) → Begun 0 la t order t order 0
+unfolding sum
+begun-none la t order =
+    record {
+      placed =
+          record {
+            group = λ i h. absurd (omega arith);
+            marked = λ i h. absurd (omega arith);
+            once = λ i j h k. absurd (omega arith);
+            cover = λ g h. absurd (omega arith);
+            bits = λ g h. absurd (omega arith);
+            count = refl;
+          };
+      starts = λ i h. absurd (omega arith);
+      holds = λ g h. absurd (omega arith);
+      rest = λ g h. refl;
+      t-long = refl;
+      order-long = refl;
+    }
+
+-- one group more is looked at, and has no lack
+level-placed : {g c : ℕ} {t order : List ℕ} → Placed g t order c → g < length t → Placed (g + 1) (set t g 0) order c
+level-placed {g} {c} {t} {order} p here =
+    record {
+      group = λ i h. omega (arith, p .group i h);
+      marked = λ i h. getD-set-other t g _ 0 0 (λ q. omega (arith, p .group i h)) ∙ p .marked i h;
+      once = p .once;
+      cover = λ h. set-by t g 0 (λ h v. h < g + 1 → v ≡ 1 → (i : ℕ) × (i < c) × (getD order i 0 ≡ h)) here (λ k m. absurd (omega arith)) (λ j d k m. p .cover j (omega arith) m) h;
+      bits = λ h. set-by t g 0 (λ h v. h < g + 1 → v ≤ 1) here (λ k. omega arith) (λ j d k. p .bits j (omega arith)) h;
+      count =
+          omega (
+            arith,
+            p .count,
+            sum-more g (λ h. 1 - getD (set t g 0) h 0),
+            getD-set-same t g 0 0 here,
+            sum-cong g (λ h. 1 - getD (set t g 0) h 0) (λ h. 1 - getD t h 0) (λ i k. ap (λ v. 1 - v) (getD-set-other t g i 0 0 (λ q. omega arith))),
+          );
+    }
+
+pub begun-more :
+    {g c c′ : ℕ} {la t₀ order₀ t order t′ order′ : List ℕ} → Begun g la t₀ order₀ t order c → g < length t → c < length order
+    → Begins g (getD la g 0) t order c t′ order′ c′ → Begun (g + 1) la t₀ order₀ t′ order′ c′
+begun-more {g} {c} {c′} {la} {t₀} {order₀} {t} {order} b here room (lacking a) =
+    record {
+      placed = rw (set-set t g 0 1) at (joined-placed (level-placed (b .placed) here) (omega arith) (getD-set-same t g 0 0 here) (simp length-set here) room);
+      starts = λ i. set-by order c g (λ i v. i < c + 1 → 0 < getD la v 0) room (λ h. a) (λ j d h. b .starts j (omega arith)) i;
+      holds = λ h. set-by t g 1 (λ h v. h < g + 1 → 0 < getD la h 0 → v ≡ 1) here (λ k m. refl) (λ j d k m. b .holds j (omega arith) m) h;
+      rest = λ h k. getD-set-other t g h 1 0 (λ q. omega arith) ∙ b .rest h (omega arith);
+      t-long = simp length-set (b .t-long);
+      order-long = simp length-set (b .order-long);
+    }
+begun-more {g} {c} {c′} {la} {t₀} {order₀} {t} {order} b here room (level a) =
+    record {
+      placed = level-placed (b .placed) here;
+      starts = b .starts;
+      holds = λ h. set-by t g 0 (λ h v. h < g + 1 → 0 < getD la h 0 → v ≡ 1) here (λ k m. absurd (omega arith)) (λ j d k m. b .holds j (omega arith) m) h;
+      rest = λ h k. getD-set-other t g h 0 0 (λ q. omega arith) ∙ b .rest h (omega arith);
+      t-long = simp length-set (b .t-long);
+      order-long = b .order-long;
+    }
+
+pub above-0 : {m : ℕ} → (m ≡ 0 → ⊥) → 0 < m
+above-0 d = omega arith

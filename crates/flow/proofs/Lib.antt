@@ -1,0 +1,9 @@
+-- The laws of the waves, each file leaning on those above it.
+pub mod SumLaws
+pub mod LinkLaws
+-- Chains, and walking along one.
+pub mod ChainLaws
+-- The set that drains.
+pub mod JoinLaws
+pub mod GrowLaws
+pub mod DrainLaws

@@ -1,0 +1,4 @@
+-- What the code of the waves promises, from the bottom up.
+pub mod Links
+pub mod Chains
+pub mod Drains

@@ -1,0 +1,163 @@
+// Growing the set that drains: it begins with the groups that have a lack, and a group joins where it could pay into it. The order in which
+// they join is the queue of the growing, breadth first, and with the link through which each joined it is the way back for a wave.
+use crate::ends::end_of;
+use entries::amount_at;
+ghost use Rattle.survey.specs.Words.{amountsOf};
+ghost use Rattle.flow.specs.Links.{bare};
+ghost use Rattle.flow.specs.Drains.{Beginnable, BeginRoom, Joinable, Growing, GrowingBack, Growable, Begun, Begins, Joins, JoinsBack, GrewForth, GrewBack, Grown};
+
+// Group g begins it where it has a lack: the next place of the order is then its own.
+fn begin_at(g: usize, lack: u64, t: &mut [u8], order: &mut [u16], count: usize) -> usize
+    requires { ⌜ Beginnable g (now t) (now order) count ⌝ }
+    ensures { λ r. ⌜ Begins g lack (now (t .entry)) (now (order .entry)) count (now (t .exit)) (now (order .exit)) r ⌝ }
+{
+    if 0 < lack {
+        t[g] = 1;
+        order[count] = g as u16;
+        return count + 1;
+    }
+    t[g] = 0;
+    count
+}
+
+// How many groups begin it. They stand first in the order.
+pub fn begin(n: usize, lack: &[u64], t: &mut [u8], order: &mut [u16]) -> usize
+    requires { ⌜ BeginRoom n (now lack) (now t) (now order) ⌝ }
+    ensures { λ r. ⌜ Begun n (now (lack .entry)) (now (t .entry)) (now (order .entry)) (now (t .exit)) (now (order .exit)) r ⌝ }
+{
+    let mut count = 0;
+    let mut g = 0;
+    while g < n {
+        count = begin_at(g, lack[g], t, order, count);
+        g += 1;
+    }
+    count
+}
+
+// Group g joins through link k, if it has not joined before. The count of those that have joined.
+fn join(g: usize, k: usize, t: &mut [u8], order: &mut [u16], by: &mut [u16], count: usize) -> usize
+    requires { ⌜ Joinable g k (now t) (now order) (now by) count ⌝ }
+    ensures { λ r. ⌜ Joins g k (now (t .entry)) (now (order .entry)) (now (by .entry)) count (now (t .exit)) (now (order .exit)) (now (by .exit)) r ⌝ }
+{
+    if t[g] == 0 {
+        t[g] = 1;
+        order[count] = g as u16;
+        by[count] = k as u16;
+        return count + 1;
+    }
+    count
+}
+
+// It can give back what link k brought it, if that is anything.
+fn join_back(
+    amount: u64,
+    g: usize,
+    k: usize,
+    t: &mut [u8],
+    order: &mut [u16],
+    by: &mut [u16],
+    count: usize,
+) -> usize
+    requires { ⌜ Joinable g k (now t) (now order) (now by) count ⌝ }
+    ensures { λ r. ⌜ JoinsBack amount g k (now (t .entry)) (now (order .entry)) (now (by .entry)) count (now (t .exit)) (now (order .exit)) (now (by .exit)) r ⌝ }
+{
+    if amount == 0 {
+        return count;
+    }
+    join(g, k, t, order, by, count)
+}
+
+// Along the links from g: whoever they go to can pay g. (The code asks nothing of n; what is promised of the order does.)
+fn forth(
+    n: usize,
+    e: usize,
+    g: usize,
+    links: &[u8],
+    head: &[u16],
+    next: &[u16],
+    t: &mut [u8],
+    order: &mut [u16],
+    by: &mut [u16],
+    started: usize,
+) -> usize
+    requires { ⌜ Growing 0 n e g (now links) (now head) (now next) (now t) (now order) (now by) started ⌝ }
+    ensures { λ r. ⌜ GrewForth n e g (now (links .entry)) (now (t .entry)) (now (order .entry)) (now (by .entry)) started (now (t .exit)) (now (order .exit)) (now (by .exit)) r ⌝ }
+{
+    let mut count = started;
+    let mut k = head[g] as usize;
+    while k < e {
+        let q = end_of(links, k, 4);
+        count = join(q, k, t, order, by, count);
+        k = next[k] as usize;
+    }
+    count
+}
+
+// Along the links to g: whoever got something by one can give it back.
+fn back(
+    n: usize,
+    e: usize,
+    g: usize,
+    links: &[u8],
+    amounts: &[u8],
+    head: &[u16],
+    next: &[u16],
+    t: &mut [u8],
+    order: &mut [u16],
+    by: &mut [u16],
+    started: usize,
+) -> usize
+    requires { ⌜ GrowingBack n e g (now links) (now amounts) (now head) (now next) (now t) (now order) (now by) started ⌝ }
+    ensures { λ r. ⌜ GrewBack n e g (now (links .entry)) (now (amounts .entry)) (now (t .entry)) (now (order .entry)) (now (by .entry)) started (now (t .exit)) (now (order .exit)) (now (by .exit)) r ⌝ }
+{
+    let mut count = started;
+    let mut k = head[g] as usize;
+    while k < e {
+        let amount = amount_at(amounts, 0, 0, k);
+        let p = end_of(links, k, 0);
+        count = join_back(amount, p, k, t, order, by, count);
+        k = next[k] as usize;
+    }
+    count
+}
+
+// Until each group that joined has been looked at. How many joined.
+pub fn grow(
+    n: usize,
+    e: usize,
+    links: &[u8],
+    amounts: &[u8],
+    from_head: &[u16],
+    from_next: &[u16],
+    to_head: &[u16],
+    to_next: &[u16],
+    t: &mut [u8],
+    order: &mut [u16],
+    by: &mut [u16],
+    started: usize,
+) -> usize
+    requires { ⌜ Growable n e (now links) (now amounts) (now «from_head») (now «from_next») (now «to_head») (now «to_next») (now t) (now order) (now by) started ⌝ }
+    ensures { λ r. ⌜ Grown (bare n e (now (links .entry))) (amountsOf (now (amounts .entry))) (now (t .entry)) (now (order .entry)) (now (by .entry)) started (now (t .exit)) (now (order .exit)) (now (by .exit)) r ⌝ }
+{
+    let mut count = started;
+    let mut at = 0;
+    while at < count {
+        let g = order[at] as usize;
+        let more = forth(n, e, g, links, from_head, from_next, t, order, by, count);
+        count = back(
+            n,
+            e,
+            g,
+            links,
+            amounts,
+            to_head,
+            to_next,
+            t,
+            order,
+            by,
+            more,
+        );
+        at += 1;
+    }
+    count
+}

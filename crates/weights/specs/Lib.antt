@@ -1,0 +1,3 @@
+-- Sums over marked groups, and weights put into lists.
+pub mod Marked
+pub mod Put
