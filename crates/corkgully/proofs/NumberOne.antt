@@ -3,9 +3,11 @@ use Prim.Native.Nat.{ℕ}
 use mathlib.Core.Path.{_≡_, ap, sym, _∙_}
 use mathlib.Core.List.{List}
 use Rattle.survey.specs.declared.answers.Reading.{Reading}
-use Rattle.survey.specs.Answers.{readingNumber}
+use Rattle.survey.specs.declared.answers.Judgement.{Judgement}
+use Rattle.survey.specs.Answers.{readingNumber, judgementNumber}
 use Rattle.survey.proofs.ReaderOne.{reader-one}
-use Rattle.corkgully.specs.Numbers.{ReadNumber}
+use Rattle.survey.proofs.ChooserOne.{checker-one}
+use Rattle.corkgully.specs.Numbers.{ReadNumber, CheckNumber}
 
 pub record SameAnswer (x x′ : ℕ) (g g′ l l′ : List ℕ) : Type 0 where
   pub answer : x ≡ x′
@@ -16,3 +18,6 @@ pub read-number-one : {f groups links : List ℕ} {x x′ : ℕ} {g g′ l l′ 
 read-number-one a b =
     let same = reader-one (a .says) (b .says) in
     record { answer = a .is ∙ ap (λ (r : Reading). readingNumber r) (same .answer) ∙ sym (b .is); groups = same .groups; links = same .links }
+
+pub check-number-one : {n e : ℕ} {groups links marks amounts : List ℕ} {x x′ : ℕ} → CheckNumber n e groups links marks amounts x → CheckNumber n e groups links marks amounts x′ → x ≡ x′
+check-number-one a b = a .is ∙ ap (λ (r : Judgement). judgementNumber r) (checker-one (a .says) (b .says)) ∙ sym (b .is)

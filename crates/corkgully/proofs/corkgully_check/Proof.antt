@@ -1,0 +1,18 @@
+use denote.Ref.{now}
+-- `corkgully::corkgully_check` meets its contract. The checker's answer fits its number. Assumes nothing.
+use Rattle.corkgully.proofs.Fit.{judgement-small}
+use borrow.Author.Needs.{needs}
+use Rattle.corkgully.proofs.corkgully_check.Statement.{statement}
+use Rattle.corkgully.proofs.corkgully_check.Tie as tie
+
+check-requires : tie.Need-check-requires
+check-requires c κs = search needs
+
+judgement-number-requires : tie.Need-judgement-number-requires
+judgement-number-requires c κs = judgement-small ((c .before .before .before .before .before) .args .n) ((c .before .before .before .before .before) .args .e) (now ((c .before .before .before .before .before) .args .groups)) (now ((c .before .before .before .before .before) .args .links)) (now ((c .before .before .before .before .before) .args .marks)) (now ((c .before .before .before .before .before) .args .amounts)) (c .check .result) (record { verdict = c .check .ensures })
+
+returns : tie.Need-returns
+returns c = record { judgement = (c .before) .check .result; says = record { verdict = (c .before) .check .ensures }; is = c .judgement-number .ensures }
+
+pub corkgully-check-spec : {M : Type 1} → statement M
+corkgully-check-spec = tie.close (tie.spec check-requires judgement-number-requires returns)
