@@ -1,7 +1,8 @@
-//! The exported functions as they are: byte slices in, one answer number out.
+//! The exported functions as they are: numbers and byte slices in, one answer number out.
 //!
 //! A group is 8 bytes, two words as in the file, low byte first, dead then live; a link likewise,
-//! from then to. A list's length is its number of whole entries.
+//! from then to. An amount is 8 bytes, low byte first, and a mark one byte. A list's length is its
+//! number of whole entries.
 //!
 //! The answer of a refusal is number + 256·sort + 65,536·place, with sort 0 nothing (place 0), 1
 //! block, 2 group and 3 link. The low 16 bits of a success are 0.
@@ -20,6 +21,34 @@ mod exported {
             links: *mut u8,
             links_length: usize,
         ) -> u64;
+
+        #[cfg(feature = "choose")]
+        pub fn corkgully_choose(
+            n: u64,
+            e: u64,
+            groups: *const u8,
+            groups_length: usize,
+            links: *const u8,
+            links_length: usize,
+            marks: *mut u8,
+            marks_length: usize,
+            amounts: *mut u8,
+            amounts_length: usize,
+        ) -> u64;
+
+        #[cfg(feature = "check")]
+        pub fn corkgully_check(
+            n: u64,
+            e: u64,
+            groups: *const u8,
+            groups_length: usize,
+            links: *const u8,
+            links_length: usize,
+            marks: *const u8,
+            marks_length: usize,
+            amounts: *const u8,
+            amounts_length: usize,
+        ) -> u64;
     }
 }
 
@@ -37,6 +66,55 @@ pub fn read(file: &[u8], groups: &mut [u8], links: &mut [u8]) -> u64 {
             groups.len(),
             links.as_mut_ptr(),
             links.len(),
+        )
+    }
+}
+
+/// Chooses the pick of a survey. Success is 65,536·rounds, and the first n marks and first e
+/// amounts are written: a claim that [`check`] accepts. A refusal writes nothing.
+#[cfg(feature = "choose")]
+pub fn choose(
+    n: u64,
+    e: u64,
+    groups: &[u8],
+    links: &[u8],
+    marks: &mut [u8],
+    amounts: &mut [u8],
+) -> u64 {
+    // SAFETY: as in `read`; of n and e nothing is asked either.
+    unsafe {
+        exported::corkgully_choose(
+            n,
+            e,
+            groups.as_ptr(),
+            groups.len(),
+            links.as_ptr(),
+            links.len(),
+            marks.as_mut_ptr(),
+            marks.len(),
+            amounts.as_mut_ptr(),
+            amounts.len(),
+        )
+    }
+}
+
+/// Checks the claim that a set is the pick of a survey. Success, the claim accepted, is 0. Nothing
+/// is written.
+#[cfg(feature = "check")]
+pub fn check(n: u64, e: u64, groups: &[u8], links: &[u8], marks: &[u8], amounts: &[u8]) -> u64 {
+    // SAFETY: as in `read`; of n and e nothing is asked either.
+    unsafe {
+        exported::corkgully_check(
+            n,
+            e,
+            groups.as_ptr(),
+            groups.len(),
+            links.as_ptr(),
+            links.len(),
+            marks.as_ptr(),
+            marks.len(),
+            amounts.as_ptr(),
+            amounts.len(),
         )
     }
 }

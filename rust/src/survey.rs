@@ -55,6 +55,26 @@ impl Survey {
                 .collect(),
         }
     }
+
+    /// The bytes of the groups and of the links, as many as a lent list must have.
+    #[cfg(feature = "check")]
+    pub(crate) fn lists(&self) -> (Vec<u8>, Vec<u8>) {
+        let groups = self.groups.iter().map(|group| [group.dead, group.live]);
+        let links = self.links.iter().map(|link| [link.from, link.to]);
+        let bytes = |words: [u32; 2]| words.into_iter().flat_map(u32::to_le_bytes);
+        (
+            padded(groups.flat_map(bytes), ENTRY * MOST_GROUPS),
+            padded(links.flat_map(bytes), ENTRY * MOST_LINKS),
+        )
+    }
+}
+
+/// These bytes, and 0 after them up to so many.
+#[cfg(feature = "check")]
+pub(crate) fn padded(bytes: impl Iterator<Item = u8>, length: usize) -> Vec<u8> {
+    let mut list: Vec<u8> = bytes.collect();
+    list.resize(list.len().max(length), 0);
+    list
 }
 
 /// The word of 4 bytes, low byte first, that stands at `at`.

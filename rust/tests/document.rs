@@ -1,4 +1,14 @@
-//! The cases of document 01 that a reader can meet, each put to the library and to the model.
+//! The cases of document 01, each put to the library and to the model: here those that a reader can
+//! meet, and in modules of their own those of the checker and the chooser.
+
+#[cfg(feature = "check")]
+#[path = "document/checker.rs"]
+mod checker;
+#[cfg(feature = "choose")]
+#[path = "document/chooser.rs"]
+mod chooser;
+#[cfg(feature = "check")]
+mod support;
 
 use corkgully::model::{self, Pair};
 use corkgully::{boundary, read, read_into, Group, Link, Place, Refusal};
@@ -37,7 +47,7 @@ fn f2_is_a_file_of_3_blocks() {
 #[test]
 fn the_header_of_f2_has_check_words_11_and_1363() {
     let file = f2();
-    assert_eq!(model::check(&file[..512]), (11, 1363));
+    assert_eq!(model::check_words(&file[..512]), (11, 1363));
     assert_eq!(file[504..512], [11, 0, 0, 0, 0x53, 0x05, 0, 0]);
 }
 

@@ -1,7 +1,9 @@
 //! Small families of files, each tried to the last member.
 
-use corkgully::boundary;
-use corkgully::model::{self, Pair};
+mod support;
+
+use corkgully::{boundary, model};
+use support::small::{every_links, reaches_itself};
 
 /// What the library answers; it does the same to its lists as the model, and the model says the
 /// same.
@@ -46,42 +48,20 @@ fn every_length_of_f2() {
     }
 }
 
-/// Whether some group is reached from itself: paths through groups 0 up to k are put together for
-/// each k in turn.
-fn reaches_itself(n: usize, links: &[Pair]) -> bool {
-    let mut reaches = [[false; 4]; 4];
-    for &(from, to) in links {
-        reaches[from as usize][to as usize] = true;
-    }
-    for k in 0..n {
-        for p in 0..n {
-            for q in 0..n {
-                reaches[p][q] |= reaches[p][k] && reaches[k][q];
-            }
-        }
-    }
-    (0..n).any(|g| reaches[g][g])
-}
-
 /// 66,066 surveys.
 #[test]
 fn every_set_of_links_between_few_groups() {
     let mut tried = 0;
     for n in 1..=4 {
-        for set in 0..1u32 << (n * n) {
-            let chosen: Vec<Pair> = (0..n * n)
-                .filter(|bit| set >> bit & 1 == 1)
-                .map(|bit| (bit / n, bit % n))
-                .collect();
-            let e = chosen.len();
-            let file = model::build(n, e as u32, &vec![(1, 1); n as usize], &chosen);
-            let cycle = reaches_itself(n as usize, &chosen);
-            let expected = if cycle {
+        for links in every_links(n) {
+            let e = links.len();
+            let file = model::build(n, e as u32, &vec![(1, 1); n as usize], &links);
+            let expected = if reaches_itself(n, &links) {
                 model::nothing(11)
             } else {
                 model::read_all(n as usize, e)
             };
-            assert_eq!(answer(&file), expected, "{:?}", chosen);
+            assert_eq!(answer(&file), expected, "{:?}", links);
             tried += 1;
         }
     }

@@ -172,6 +172,17 @@ drained-law b w =
       long = w .grew .t-long ∙ b .t-long;
     }
 
+-- Marks that are 0 or 1 are equal where they are 1 together.
+pub bits-one : {u v : ℕ} → u ≤ 1 → v ≤ 1 → eqb u 1 ≡ eqb v 1 → u ≡ v
+bits-one {u} {v} hu hv e = go (eqb u 1) refl
+  where
+    go : (r : Bool) → eqb u 1 ≡ r → u ≡ v
+    go true r = eqb-true u 1 r ∙ sym (eqb-true v 1 (sym e ∙ r))
+    go false r =
+        let nu : u ≡ 1 → ⊥ = eqb-false u 1 r in
+        let nv : v ≡ 1 → ⊥ = eqb-false v 1 (sym e ∙ r) in
+        omega arith
+
 -- Two results that are allowed are equal.
 pub drained-one : {n e : ℕ} {links amounts la t a b : List ℕ} → Drained n e links amounts la t a → Drained n e links amounts la t b → a ≡ b
 drained-one {n} {e} {links} {amounts} {la} {t} {a} {b} p q =
@@ -183,20 +194,14 @@ drained-one {n} {e} {links} {amounts} {la} {t} {a} {b} p q =
     y : Least (bare n e links) (amountsOf amounts) (λ g. getD la g 0) (markedSet b)
     y = q .least (bare n e links) (bare-given n e links)
 
-    -- marks that are 0 or 1, and 1 together
-    bit : {u v : ℕ} → u ≤ 1 → v ≤ 1 → (eqb u 1 ≡ true → eqb v 1 ≡ true) → (eqb v 1 ≡ true → eqb u 1 ≡ true) → u ≡ v
-    bit {u} {v} hu hv f g = by (eqb u 1) refl (eqb v 1) refl
-      where
-        by : (r : Bool) → eqb u 1 ≡ r → (s : Bool) → eqb v 1 ≡ s → u ≡ v
-        by true r s z = eqb-true u 1 r ∙ sym (eqb-true v 1 (f r))
-        by false r true z = eqb-true u 1 (g z) ∙ sym (eqb-true v 1 z)
-        by false r false z =
-            let nu : u ≡ 1 → ⊥ = eqb-false u 1 r in
-            let nv : v ≡ 1 → ⊥ = eqb-false v 1 z in
-            omega arith
+    together : (u v : Bool) → (u ≡ true → v ≡ true) → (v ≡ true → u ≡ true) → u ≡ v
+    together true v f g = sym (f refl)
+    together false true f g = g refl
+    together false false f g = refl
 
     go : (i : ℕ) (r : Bool) → ltb i n ≡ r → getD a i 0 ≡ getD b i 0
     go i true r =
         let l = ltb-true i n r in
-        bit (p .bits i l) (q .bits i l) (λ m. x .least (markedSet b) (y .obeys) (y .holds) .has i l m) (λ m. y .least (markedSet a) (x .obeys) (x .holds) .has i l m)
+        bits-one (p .bits i l) (q .bits i l)
+        (together (markedSet a i) (markedSet b i) (λ m. x .least (markedSet b) (y .obeys) (y .holds) .has i l m) (λ m. y .least (markedSet a) (x .obeys) (x .holds) .has i l m))
     go i false r = let l = ltb-false i n r in p .rest i l ∙ sym (q .rest i l)

@@ -7,3 +7,11 @@ pub mod ChainLaws
 pub mod JoinLaws
 pub mod GrowLaws
 pub mod DrainLaws
+-- Sends and waves.
+pub mod BoundLaws
+pub mod SendLaws
+pub mod SafeLaws
+pub mod WaveLaws
+pub mod TideLaws
+pub mod HalfLaws
+pub mod HeavyLaws

@@ -2,3 +2,6 @@
 pub mod Links
 pub mod Chains
 pub mod Drains
+pub mod Sends
+pub mod Waves
+pub mod Heavy

@@ -3,4 +3,7 @@ pub mod chains;
 pub mod draining;
 mod drains;
 mod ends;
+pub mod heavy;
+mod sends;
 mod sizes;
+mod waves;

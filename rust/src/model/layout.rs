@@ -19,7 +19,7 @@ pub(super) fn word(block: &[u8], w: usize) -> u32 {
 
 /// The two check sums of a block: a begins at 1, b at 0; for each content word a becomes a plus the
 /// word, then b becomes b plus the new a.
-pub fn check(block: &[u8]) -> (u32, u32) {
+pub fn check_words(block: &[u8]) -> (u32, u32) {
     let (mut a, mut b) = (1u32, 0u32);
     for w in 0..CONTENT {
         a = a.wrapping_add(word(block, w));

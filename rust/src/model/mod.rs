@@ -3,19 +3,32 @@
 //!
 //! Everything here is written from document 01 and the numbers of the boundary alone. It uses
 //! nothing of this crate's other modules, nothing of the proved library, and other methods where
-//! there is a choice (a cycle is found by a search in depth, not by taking groups away), so that a
-//! mistake on one side has no reason to be made on the other.
+//! there is a choice, so that a mistake on one side has no reason to be made on the other: a cycle
+//! is found by a search in depth, not by taking groups away; the heaviest closed set by augmenting
+//! paths, or for small surveys by looking at every set, not by waves; the largest set of the
+//! balance rule by passes over the links, not by a queue.
 
 mod answer;
+mod checker;
+mod chooser;
 mod cycle;
+mod every_set;
 mod layout;
+mod lists;
+mod paths;
 mod reader;
+mod sets;
 mod survey;
 mod writer;
 
-pub use answer::{at_block, at_group, at_link, nothing, read_all};
-pub use layout::{check, BLOCK, CONTENT, MOST_BLOCKS, PAIRS};
+pub use answer::{at_block, at_group, at_link, chosen, nothing, read_all, ACCEPTED};
+pub use checker::{check, MOST_AMOUNT};
+pub use chooser::{choose, choose_by_paths, Pick};
+pub use every_set::{choose_by_every_set, MOST_TO_TRY};
+pub use layout::{check_words, BLOCK, CONTENT, MOST_BLOCKS, PAIRS};
+pub use paths::{heaviest, Heaviest};
 pub use reader::read;
+pub use sets::{open_link, sums, weights, Set};
 pub use survey::{MOST_COUNT, MOST_GROUPS, MOST_LINKS};
 pub use writer::{build, mend};
 

@@ -1,7 +1,9 @@
 //! The reader of survey files, fault by fault in the order of the table of refusals.
 
 use super::answer::{at_block, nothing, read_all};
-use super::layout::{blocks_for, check, kind_and_used, word, BLOCK, CONTENT, MOST_BLOCKS, PAIRS};
+use super::layout::{
+    blocks_for, check_words, kind_and_used, word, BLOCK, CONTENT, MOST_BLOCKS, PAIRS,
+};
 use super::survey::{out_of_range, survey_fault, MOST_GROUPS, MOST_LINKS};
 use super::Pair;
 
@@ -28,7 +30,7 @@ fn survey_in(file: &[u8]) -> Result<(Vec<Pair>, Vec<Pair>), u64> {
     let blocks: Vec<&[u8]> = file.chunks(BLOCK).collect();
 
     let disagrees =
-        |block: &&[u8]| check(block) != (word(block, CONTENT), word(block, CONTENT + 1));
+        |block: &&[u8]| check_words(block) != (word(block, CONTENT), word(block, CONTENT + 1));
     if let Some(b) = blocks.iter().position(disagrees) {
         return Err(at_block(3, b));
     }

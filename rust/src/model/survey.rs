@@ -1,7 +1,8 @@
-//! The faults of a survey however it came: its sizes, and 8 to 12.
+//! The faults of a survey however it came: its sizes, and 8 to 12. And one given as lists.
 
 use super::answer::{at_group, at_link, nothing};
 use super::cycle::has_cycle;
+use super::lists::pairs;
 use super::Pair;
 
 /// The most groups of a survey.
@@ -14,6 +15,24 @@ pub const MOST_COUNT: u32 = 1_000_000;
 /// Fault 5: n or e outside its range.
 pub(super) fn out_of_range(n: u64, e: u64) -> bool {
     n < 1 || n > MOST_GROUPS as u64 || e > MOST_LINKS as u64
+}
+
+/// The groups and links of a survey given as lists that are long enough, or its refusal.
+pub(super) fn survey_in_lists(
+    n: u64,
+    e: u64,
+    groups: &[u8],
+    links: &[u8],
+) -> Result<(Vec<Pair>, Vec<Pair>), u64> {
+    if out_of_range(n, e) {
+        return Err(nothing(5));
+    }
+    let groups = pairs(groups, n as usize);
+    let links = pairs(links, e as usize);
+    match survey_fault(&groups, &links) {
+        Some(refusal) => Err(refusal),
+        None => Ok((groups, links)),
+    }
 }
 
 /// The first of the faults 8 to 12, as a refusal.

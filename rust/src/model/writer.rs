@@ -1,6 +1,6 @@
 //! A writer of survey files for tests. It writes what it is told, right or wrong.
 
-use super::layout::{check, BLOCK, CONTENT, PAIRS};
+use super::layout::{check_words, BLOCK, CONTENT, PAIRS};
 use super::Pair;
 
 /// A survey file with these groups and links, each block sound in itself. The header says n and e
@@ -21,7 +21,7 @@ pub fn build(n: u32, e: u32, groups: &[Pair], links: &[Pair]) -> Vec<u8> {
 /// Makes the check words of every whole block right again.
 pub fn mend(file: &mut [u8]) {
     for block in file.chunks_exact_mut(BLOCK) {
-        let (a, b) = check(block);
+        let (a, b) = check_words(block);
         block[4 * CONTENT..4 * CONTENT + 4].copy_from_slice(&a.to_le_bytes());
         block[4 * CONTENT + 4..].copy_from_slice(&b.to_le_bytes());
     }

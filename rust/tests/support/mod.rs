@@ -1,22 +1,28 @@
-//! What the tests of the library against the model are made of, in the order in which a file is
-//! made and tried:
+//! What the tests of the library against the model share:
 //!
 //! - `random`: numbers that are the same in each run
-//! - `surveys`: surveys that are admitted
+//! - `surveys`: surveys that are admitted, of all sizes
+//! - `shapes`: surveys on which choosing is work
 //! - `survey_faults`: faults 8 to 12, put into a survey
-//! - `file_faults`: faults 2 to 7, put into a file
-//! - `wild`: damage whose answer only the model knows
-//! - `cases`: which of these a case takes, and the lists that are lent
+//! - `small`: every survey of few groups
+//! - `lists`: the lists that a call lends
 //! - `room`: memory with nothing readable before and behind it
-//! - `trial`: one call of the library beside one of the model
-//! - `coverage`: which answers came up
+//! - `lent`: slices lent from such rooms
+//! - `packed`: a refusal as a number
+//! - `coverage`: what came up
+//! - `run`: many cases on all cores
 
-pub mod cases;
+// No test uses all of it.
+#![allow(dead_code)]
+
 pub mod coverage;
-pub mod file_faults;
+pub mod lent;
+pub mod lists;
+pub mod packed;
 pub mod random;
 pub mod room;
+pub mod run;
+pub mod shapes;
+pub mod small;
 pub mod survey_faults;
 pub mod surveys;
-pub mod trial;
-pub mod wild;

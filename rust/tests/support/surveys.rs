@@ -3,8 +3,9 @@
 
 use super::random::Random;
 use corkgully::model::{self, Pair, MOST_COUNT, MOST_GROUPS, MOST_LINKS, PAIRS};
+use corkgully::{Group, Link, Survey};
 
-#[derive(Clone)]
+#[derive(Clone, Debug)]
 pub struct Draft {
     pub groups: Vec<Pair>,
     pub links: Vec<Pair>,
@@ -14,6 +15,16 @@ impl Draft {
     pub fn file(&self) -> Vec<u8> {
         let (n, e) = (self.groups.len() as u32, self.links.len() as u32);
         model::build(n, e, &self.groups, &self.links)
+    }
+
+    /// The same as the wrapper has it.
+    pub fn survey(&self) -> Survey {
+        let group = |&(dead, live): &Pair| Group { dead, live };
+        let link = |&(from, to): &Pair| Link { from, to };
+        Survey {
+            groups: self.groups.iter().map(group).collect(),
+            links: self.links.iter().map(link).collect(),
+        }
     }
 
     /// What the reader answers where nothing is wrong.

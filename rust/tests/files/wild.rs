@@ -1,8 +1,8 @@
 //! Damage whose answer only the model knows: blocks moved about, bits and words overwritten, noise.
 
 use super::file_faults::{set_word, word};
-use super::random::Random;
-use super::surveys::admitted;
+use crate::support::random::Random;
+use crate::support::surveys::admitted;
 use corkgully::model::{
     build, mend, Pair, BLOCK, CONTENT, MOST_BLOCKS, MOST_GROUPS, MOST_LINKS, PAIRS,
 };

@@ -4,8 +4,8 @@
 //! They are put in from the highest number down, and those above 3 leave every check right, so that
 //! the fault itself is reached.
 
-use super::random::Random;
-use super::surveys::Draft;
+use crate::support::random::Random;
+use crate::support::surveys::Draft;
 use corkgully::model::{
     at_block, mend, nothing, BLOCK, CONTENT, MOST_BLOCKS, MOST_GROUPS, MOST_LINKS, PAIRS,
 };

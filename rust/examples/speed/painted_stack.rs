@@ -1,7 +1,7 @@
 //! How deep a call goes: it runs on a stack of its own that was painted before, and the lowest byte
 //! that lost its paint is looked for.
 
-use super::room::Room;
+use super::support::room::Room;
 use std::arch::asm;
 
 const SIZE: usize = 1 << 20;

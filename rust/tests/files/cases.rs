@@ -1,8 +1,10 @@
 //! The cases: which file is tried, in which lists, and what is known of the answer beforehand.
 
-use super::random::Random;
-use super::surveys::{admitted, Draft};
-use super::{file_faults, survey_faults, wild};
+use super::{file_faults, wild};
+use crate::support::lists::{length, GROUPS_LENGTHS, LINKS_LENGTHS};
+use crate::support::random::Random;
+use crate::support::survey_faults;
+use crate::support::surveys::{admitted, Draft};
 use corkgully::model::{nothing, MOST_GROUPS, MOST_LINKS};
 
 #[derive(Default)]
@@ -18,47 +20,6 @@ pub struct Case {
     /// The survey that the file was made from, where nothing was damaged.
     pub draft: Option<Draft>,
 }
-
-/// How many of the lengths below are long enough; they stand last.
-const LONG_ENOUGH: usize = 5;
-/// The lengths, in bytes, of the lists of groups that are lent.
-pub const GROUPS_LENGTHS: [usize; 12] = {
-    let enough = 8 * MOST_GROUPS;
-    [
-        0,
-        1,
-        7,
-        8,
-        enough - 8,
-        enough - 7,
-        enough - 1,
-        enough,
-        enough + 1,
-        enough + 7,
-        enough + 8,
-        2 * enough,
-    ]
-};
-/// The lengths of the lists of links.
-pub const LINKS_LENGTHS: [usize; 14] = {
-    let enough = 8 * MOST_LINKS;
-    [
-        0,
-        1,
-        7,
-        8,
-        1023,
-        1024,
-        enough - 8,
-        enough - 7,
-        enough - 1,
-        enough,
-        enough + 1,
-        enough + 7,
-        enough + 8,
-        enough + 1024,
-    ]
-};
 
 pub fn case(seed: u64, number: u64) -> Case {
     let mut random = Random::new(seed, number);
@@ -116,7 +77,7 @@ fn faulty(random: &mut Random) -> Case {
     }
 }
 
-/// Lists of all lengths; most are long enough, or nothing but refusal 1 would be tried.
+/// Lists of all lengths.
 fn lengths(case: &mut Case, random: &mut Random) {
     case.groups_length = length(&GROUPS_LENGTHS, random);
     case.links_length = length(&LINKS_LENGTHS, random);
@@ -128,10 +89,4 @@ fn lengths(case: &mut Case, random: &mut Random) {
         case.told = Some(nothing(1));
         case.faults.push(1);
     }
-}
-
-fn length(lengths: &[usize], random: &mut Random) -> usize {
-    let any = random.once_in(12);
-    let enough = &lengths[lengths.len() - LONG_ENOUGH..];
-    random.one_of(if any { lengths } else { enough })
 }

@@ -1,0 +1,133 @@
+-- Laws of a whole wave: what has grown can be gone back through; and where nobody sent, the set that drains is dry.
+use Prim.Native.Nat.{ℕ, _+_, _≤_, _<_}
+use native.Mathlib.Omega.{arith}
+use mathlib.Core.Path.{_≡_, refl, sym, ap, _∙_}
+use mathlib.Core.Bool.{Bool, true, false, not}
+use mathlib.Core.List.{List}
+use lib.ListN.{length, getD}
+use lib.Dec.{eqb, ltb}
+use borrow.Author.Tests.{eqb-true, eqb-false, ltb-true, ltb-false}
+use Rattle.survey.specs.Survey.{Survey}
+use Rattle.survey.specs.Sets.{Set, In, Same, outside}
+use Rattle.survey.specs.Balance.{Amounts}
+use Rattle.survey.specs.Words.{amountsOf, markedSet}
+use Rattle.survey.proofs.Reaching.{Inside}
+use Rattle.flow.specs.Links.{bare}
+use Rattle.flow.specs.Drains.{Growable, Begun, Grown, Least}
+use Rattle.flow.specs.Sends.{Course}
+use Rattle.flow.specs.Waves.{Flowed, lacks, unmarked, Remarked, Pourable, Still, Poured, WavesAsk, Wavable, Dry, Waved, WavedOnce, WavedAll}
+use Rattle.flow.proofs.JoinLaws.{placed-most}
+use Rattle.flow.proofs.DrainLaws.{grown-least}
+use Rattle.flow.proofs.SafeLaws.{net-inside}
+use Rattle.flow.proofs.WaveLaws.{flow-none, flow-on, course-after, lack-no-excess, lacks-fall}
+
+-- The least set is one as far as the survey's groups go.
+pub least-same : {s : Survey} {x : Amounts} {la : ℕ → ℕ} {T T′ : Set} → Inside s → Same s T T′ → Least s x la T → Least s x la T′
+least-same i q d =
+    record {
+      obeys =
+          record {
+            forth = λ k l m. sym (q .at _ (i .to k l)) ∙ d .obeys .forth k l (q .at _ (i .from k l) ∙ m);
+            back = λ k l p m. sym (q .at _ (i .from k l)) ∙ d .obeys .back k l p (q .at _ (i .to k l) ∙ m);
+          };
+      holds = λ g l p. sym (q .at g l) ∙ d .holds g l p;
+      least = λ U o h. record { has = λ g l m. d .least U o h .has g l (q .at g l ∙ m) };
+    }
+
+-- a mark that is 0 or 1 is 1 where it isn't 0
+bit : {u : ℕ} → u ≤ 1 → eqb u 1 ≡ not (eqb u 0)
+bit {u} h = go (eqb u 1) refl
+  where
+    go : (t : Bool) → eqb u 1 ≡ t → eqb u 1 ≡ not (eqb u 0)
+    go true q = let one : u ≡ 1 = eqb-true u 1 q in rw one
+    go false q =
+        let other : u ≡ 1 → ⊥ = eqb-false u 1 q in
+        let none : u ≡ 0 = omega arith in
+        rw none
+
+module _ {n e c : ℕ} {links fh fn th tn amounts ex la t₀ order₀ by₀ t₁ order₁ : List ℕ} (p : Wavable n e links fh fn th tn amounts ex la t₀ order₀ by₀) (b : Begun n la t₀ order₀ t₁ order₁ c) where
+  pub wave-growable : Growable n e links amounts fh fn th tn t₁ order₁ by₀ c
+  wave-growable =
+      record {
+        net = p .ask .course .net;
+        amounts-long = p .ask .course .amounts-long;
+        forth = p .ask .forth;
+        back = p .ask .back;
+        room =
+            record {
+              t-long = omega (arith, b .t-long, p .ask .t-long);
+              order-long = omega (arith, b .order-long, p .order-long);
+              by-long = p .by-long;
+            };
+        placed = b .placed;
+      }
+
+  module _ {t₂ order₂ by₂ : List ℕ} {c′ : ℕ} (w : Grown (bare n e links) (amountsOf amounts) t₁ order₁ by₀ c t₂ order₂ by₂ c′) where
+    starts : (j : ℕ) → j < c → 0 < getD la (getD order₂ j 0) 0
+    starts j h = rw (w .grew .order-same j h) (b .starts j h)
+
+    pub wave-pourable : Pourable n e links amounts ex la t₂ order₂ by₂ c c′
+    wave-pourable =
+        record {
+          course = p .ask .course;
+          more = w .grew .more;
+          most = placed-most (w .grew .placed);
+          group = w .grew .placed .group;
+          once = w .grew .placed .once;
+          starts = starts;
+          hops = w .grew .hops;
+          marked = w .grew .placed .marked;
+          ahead = record { at = w .grew .placed .cover };
+          t-long = omega (arith, b .t-long, w .grew .t-long, p .ask .t-long);
+          order-long = omega (arith, b .order-long, w .grew .order-long, p .order-long);
+          by-long = omega (arith, w .grew .by-long, p .by-long);
+        }
+
+    module _ {amounts′ ex′ la′ t₃ : List ℕ} {r : ℕ} (v : Poured n e links amounts ex la t₂ order₂ c c′ amounts′ ex′ la′ t₃ r) where
+      drains : (g : ℕ) → g < n → markedSet t₂ g ≡ outside (unmarked t₃) g
+      drains g l = rw (v .remarked .same g) (bit (w .grew .placed .bits g l))
+
+      dry : Still amounts ex la order₂ c c′ amounts′ ex′ la′ → Dry n e links amounts ex la t₃
+      dry s =
+          record {
+            least = least-same (net-inside (p .ask .course .net)) (record { at = drains }) (grown-least links b w);
+            dry = λ g l m. none g l (eqb-true (getD t₂ g 0) 1 (drains g l ∙ m));
+          }
+        where
+          none : (g : ℕ) → g < n → getD t₂ g 0 ≡ 1 → getD ex g 0 ≡ 0
+          none g l m = let f = w .grew .placed .cover g l m in rw (f .2) at (go (f .0) (f .1) (ltb (f .0) c) refl)
+            where
+              go : (j : ℕ) → j < c′ → (q : Bool) → ltb j c ≡ q → getD ex (getD order₂ j 0) 0 ≡ 0
+              go j k true q = lack-no-excess (p .ask .course) (getD order₂ j 0) (w .grew .placed .group j k) (starts j (ltb-true j c q))
+              go j k false q = s .dry j (ltb-false j c q) k
+
+      pub wave-once : WavedOnce n e links amounts ex la t₀ order₀ by₀ amounts′ ex′ la′ t₃ order₂ by₂ r
+      wave-once =
+          record {
+            waved =
+                record {
+                  flowed = v .flowed;
+                  rest = λ g h. v .remarked .rest g h ∙ w .grew .rest g h ∙ b .rest g h;
+                  long = v .remarked .long ∙ w .grew .t-long ∙ b .t-long;
+                };
+            order-long = w .grew .order-long ∙ b .order-long;
+            by-long = w .grew .by-long;
+            done = λ z. let s = v .still z in rw (s .amounts-same, s .ex-same, s .la-same) (dry s);
+            fell = v .fell;
+          }
+
+-- ---- wave after wave
+
+pub waved-none : {n e : ℕ} {links amounts ex la t : List ℕ} → Waved n e links amounts ex la t amounts ex la t
+waved-none = record { flowed = flow-none; rest = λ g h. refl; long = refl }
+
+pub waved-on :
+    {n e : ℕ} {links amounts ex la t amounts′ ex′ la′ t′ amounts″ ex″ la″ t″ : List ℕ} → Waved n e links amounts ex la t amounts′ ex′ la′ t′
+    → Waved n e links amounts′ ex′ la′ t′ amounts″ ex″ la″ t″ → Waved n e links amounts ex la t amounts″ ex″ la″ t″
+waved-on a b = record { flowed = flow-on (a .flowed) (b .flowed); rest = λ g h. b .rest g h ∙ a .rest g h; long = b .long ∙ a .long }
+
+pub ask-after :
+    {n e : ℕ} {links fh fn th tn amounts ex la t amounts′ ex′ la′ t′ : List ℕ} → WavesAsk n e links fh fn th tn amounts ex la t → Waved n e links amounts ex la t amounts′ ex′ la′ t′
+    → WavesAsk n e links fh fn th tn amounts′ ex′ la′ t′
+ask-after p w =
+    record { course = course-after (p .course) (w .flowed); forth = p .forth; back = p .back; t-long = omega (arith, w .long, p .t-long) }
