@@ -1,15 +1,15 @@
 -- Nothing wraps. Where the links have no cycle and no lack is above its minus, what is on the links into a group, or out of it, is at most the
 -- total plus: all of it crosses one cut between the groups of low rank and those of high rank (design/mathematics.md, 16).
-use Prim.Native.Nat.{ℕ, _+_, _-_, _≤_, _<_}
+use Prim.Native.Nat.{ℕ, _+_, _≤_, _<_}
 use native.Mathlib.Omega.{arith}
 use mathlib.Core.Path.{_≡_, refl, sym, _∙_}
 use mathlib.Core.Bool.{Bool, true, false, _&&_, not}
 use lib.Dec.{eqb, ltb}
 use borrow.Author.Tests.{eqb-true, eq-eqb, lt-ltb, le-ltb, ltb-true}
 use Rattle.survey.specs.Survey.{Survey}
-use Rattle.survey.specs.Sets.{Set, Closed, allGroups, outside, sum, only, total}
+use Rattle.survey.specs.Sets.{Set, Closed, allGroups, outside, only, total}
 use Rattle.survey.specs.Rounds.{Weights, totalPlus}
-use Rattle.survey.specs.Balance.{Amounts, gets, pays, credit, debit}
+use Rattle.survey.specs.Balance.{Amounts, gets, pays}
 use Rattle.survey.proofs.Reaching.{Inside}
 use Rattle.survey.proofs.Cycles.{Ranking}
 use Rattle.survey.proofs.SumOrder.{sum-le}

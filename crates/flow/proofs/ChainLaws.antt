@@ -9,7 +9,7 @@ use lib.Seq.{getD-set-same, getD-set-other, ext-getD}
 use lib.Dec.{eqb, ltb}
 use borrow.Author.Tests.{eqb-true, eqb-false, ltb-true, ltb-false}
 use Rattle.flow.specs.Links.{endOf}
-use Rattle.flow.specs.Chains.{IsNext, Chains, Chained, Filled}
+use Rattle.flow.specs.Chains.{IsNext, Chained, Filled}
 
 -- ---- the first n places filled with one value
 

@@ -1,15 +1,15 @@
 -- Laws of the set that drains: once each link of each group in it is seen to, it is the least one, and there is one least set.
 use Prim.Native.Nat.{ℕ, zero, suc, _+_, _<_, _≤_}
-use mathlib.Core.Path.{_≡_, refl, sym, ap, _∙_}
+use mathlib.Core.Path.{_≡_, refl, sym, _∙_}
 use mathlib.Core.List.{List}
 use mathlib.Core.Bool.{Bool, true, false}
 use native.Mathlib.Omega.{arith}
-use lib.ListN.{length, getD}
+use lib.ListN.{getD}
 use lib.Seq.{ext-getD}
 use lib.Dec.{eqb, ltb}
 use borrow.Author.Tests.{eqb-true, eqb-false, eq-eqb, ltb-true, ltb-false}
 use Rattle.survey.specs.Survey.{Survey}
-use Rattle.survey.specs.Sets.{Set, In, Contains}
+use Rattle.survey.specs.Sets.{Set, In}
 use Rattle.survey.specs.Balance.{Amounts}
 use Rattle.survey.specs.Words.{markedSet, amountsOf}
 use Rattle.survey.specs.Rounds.{Weights}
@@ -17,7 +17,7 @@ use Rattle.survey.proofs.BalanceLaw.{lack}
 use Rattle.survey.proofs.Draining.{Obeys, Drains}
 use Rattle.flow.specs.Links.{endOf, Given, bare}
 use Rattle.flow.specs.Chains.{Chainable, Chained}
-use Rattle.flow.specs.Drains.{Net, Index, Placed, Way, pays, gives-back, Hop, Growing, Growable, Begun, Grew, GrewForth, GrewBack, Grown, Least, Drained}
+use Rattle.flow.specs.Drains.{Net, Index, Placed, Way, pays, gives-back, Growing, Growable, Begun, Grew, GrewForth, GrewBack, Grown, Least, Drained}
 use Rattle.flow.proofs.LinkLaws.{bare-given, bare-obeys, obeys-bare, given-group}
 use Rattle.flow.proofs.GrowLaws.{grew-none, grew-on, grew-room}
 

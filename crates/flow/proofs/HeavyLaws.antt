@@ -1,35 +1,33 @@
 -- Laws of the heaviest set: what begins it is balanced, and what the waves end with proves it, for each survey that has the links.
-use Prim.Native.Nat.{ℕ, _+_, _-_, _*_, _≤_, _<_}
+use Prim.Native.Nat.{ℕ, _+_, _*_, _≤_, _<_}
 use native.Mathlib.Omega.{arith}
 use mathlib.Core.Path.{_≡_, refl, sym, ap, _∙_}
 use mathlib.Core.Bool.{Bool, true, false, not}
 use mathlib.Core.List.{List}
-use lib.ListN.{length, getD, set, length-set}
-use lib.Seq.{getD-set-same, getD-set-other, ext-getD}
+use lib.ListN.{getD}
+use lib.Seq.{ext-getD}
 use lib.Dec.{eqb, ltb}
-use borrow.Author.Tests.{eqb-true, eqb-false, ltb-true, ltb-false}
-use Rattle.survey.specs.Limits.{amountLimit, entryBytes}
+use borrow.Author.Tests.{ltb-true, ltb-false}
 use Rattle.survey.specs.Survey.{Survey, ComesTo, one, more, Cycle}
-use Rattle.survey.specs.Sets.{Set, In, Same, sum, only, total, outside, allGroups}
-use Rattle.survey.specs.Rounds.{Weights, Heaviest, totalPlus}
+use Rattle.survey.specs.Sets.{In, Same, sum, only, total, outside}
+use Rattle.survey.specs.Rounds.{Weights}
 use Rattle.survey.specs.Balance.{Amounts, gets, pays, credit, debit}
 use Rattle.survey.specs.Words.{amountsOf, markedSet, standsAt, lent}
 use Rattle.survey.proofs.Reaching.{Inside}
 use Rattle.survey.proofs.Sums.{sum-cong, sum-zero}
 use Rattle.survey.proofs.SameSets.{heaviest-same}
 use Rattle.survey.proofs.Unique as unique
-use Rattle.survey.proofs.BalanceLaw.{excess, lack}
 use Rattle.survey.proofs.Draining.{Drains, drained-heaviest}
 use Rattle.flow.specs.Links.{endOf, Given, bare}
 use Rattle.flow.specs.Chains.{Filled}
-use Rattle.flow.specs.Drains.{Net, Least}
-use Rattle.flow.specs.Sends.{Balanced, Course}
-use Rattle.flow.specs.Waves.{unmarked, Flowed, Dry, WavesAsk, Waved, WavedAll}
-use Rattle.flow.specs.Heavy.{Halved, flipped, Flipped, Weighed, Weighable, Proves, Heavy}
+use Rattle.flow.specs.Drains.{Net}
+use Rattle.flow.specs.Sends.{Balanced}
+use Rattle.flow.specs.Waves.{unmarked, WavesAsk, WavedAll}
+use Rattle.flow.specs.Heavy.{Halved, Flipped, Weighed, Weighable, Proves, Heavy}
 use Rattle.flow.proofs.LinkLaws.{bare-given, given-from, given-to, given-below}
 use Rattle.flow.proofs.DrainLaws.{bits-one, least-given, least-drains}
 use Rattle.flow.proofs.SafeLaws.{amount-small}
-use Rattle.flow.proofs.WaveLaws.{course-after}
+use Rattle.flow.proofs.FlowLaws.{course-after}
 use Rattle.flow.proofs.TideLaws.{least-same}
 
 -- ---- a survey that has the links has the balances too

@@ -11,6 +11,7 @@ pub mod DrainLaws
 pub mod BoundLaws
 pub mod SendLaws
 pub mod SafeLaws
+pub mod FlowLaws
 pub mod WaveLaws
 pub mod TideLaws
 pub mod HalfLaws

@@ -5,25 +5,24 @@ use mathlib.Core.Path.{_≡_, refl, sym, ap, _∙_}
 use mathlib.Core.Logic.{_⊎_, inl, inr}
 use mathlib.Core.Bool.{Bool, true, false, cond}
 use mathlib.Core.List.{List}
-use lib.ListN.{length, getD}
+use lib.ListN.{getD}
 use lib.Dec.{eqb, ltb}
 use borrow.Author.Tests.{eqb-true, eqb-false, eq-eqb, ne-eqb, ltb-true, ltb-false}
 use Rattle.survey.specs.Limits.{amountLimit, entryBytes}
-use Rattle.survey.specs.Survey.{Survey, Cycle, one}
-use Rattle.survey.specs.Sets.{allGroups, sum}
-use Rattle.survey.specs.Rounds.{Weights, totalPlus}
+use Rattle.survey.specs.Survey.{Survey, one}
+use Rattle.survey.specs.Sets.{sum}
+use Rattle.survey.specs.Rounds.{Weights}
 use Rattle.survey.specs.Balance.{Amounts}
-use Rattle.survey.specs.Words.{amountsOf, amountAt, lent}
+use Rattle.survey.specs.Words.{amountsOf}
 use Rattle.survey.proofs.Reaching.{Inside}
 use Rattle.survey.proofs.Cycles.{Ranking, no-cycle-ranking}
 use Rattle.survey.proofs.SumOrder.{sum-lt}
-use Rattle.survey.proofs.BalanceLaw.{excess, lack}
+use Rattle.survey.proofs.BalanceLaw.{lack}
 use Rattle.words.proofs.WordLaws.{length-with-long-word, with-long-word-outside}
-use Rattle.entries.specs.Entries.{EntryWithin, withAmount}
 use Rattle.entries.proofs.EntryLaws.{amount-with, amount-with-other}
 use Rattle.flow.specs.Links.{endOf, bare}
 use Rattle.flow.specs.Drains.{Net, Way, pays, gives-back}
-use Rattle.flow.specs.Sends.{Balanced, Safe, Course, Receivable, Movable, Moves, Lower, Sendable, Sends, paid, gave}
+use Rattle.flow.specs.Sends.{Course, Movable, Moves, Lower, Sendable, Sends, paid, gave}
 use Rattle.flow.specs.Waves.{Flowed}
 use Rattle.flow.proofs.BoundLaws.{amount-bound, excess-bound}
 use Rattle.flow.proofs.SendLaws.{Raised, Shifts, paid-shifts, gave-shifts, lack-falls, receiver-excess, moved-receiver, moved-lack, moved-lack-else, moved-ex-long, moved-la-long, moved-else, moved-balanced}
@@ -32,9 +31,6 @@ pub net-inside : {n e : ℕ} {links : List ℕ} → Net n e links → Inside (ba
 net-inside net = record { from = net .from; to = net .to }
 
 module _ {n e : ℕ} {links amounts ex la : List ℕ} (c : Course n e links amounts ex la) where
-  x : Amounts
-  x = amountsOf amounts
-
   ranking : Ranking (bare n e links)
   ranking = no-cycle-ranking (net-inside (c .net)) (c .no-cycle)
 

@@ -1,25 +1,24 @@
 -- Laws of a whole wave: what has grown can be gone back through; and where nobody sent, the set that drains is dry.
-use Prim.Native.Nat.{ℕ, _+_, _≤_, _<_}
+use Prim.Native.Nat.{ℕ, _≤_, _<_}
 use native.Mathlib.Omega.{arith}
-use mathlib.Core.Path.{_≡_, refl, sym, ap, _∙_}
+use mathlib.Core.Path.{_≡_, refl, sym, _∙_}
 use mathlib.Core.Bool.{Bool, true, false, not}
 use mathlib.Core.List.{List}
-use lib.ListN.{length, getD}
+use lib.ListN.{getD}
 use lib.Dec.{eqb, ltb}
 use borrow.Author.Tests.{eqb-true, eqb-false, ltb-true, ltb-false}
 use Rattle.survey.specs.Survey.{Survey}
-use Rattle.survey.specs.Sets.{Set, In, Same, outside}
+use Rattle.survey.specs.Sets.{Set, Same, outside}
 use Rattle.survey.specs.Balance.{Amounts}
 use Rattle.survey.specs.Words.{amountsOf, markedSet}
 use Rattle.survey.proofs.Reaching.{Inside}
 use Rattle.flow.specs.Links.{bare}
 use Rattle.flow.specs.Drains.{Growable, Begun, Grown, Least}
-use Rattle.flow.specs.Sends.{Course}
-use Rattle.flow.specs.Waves.{Flowed, lacks, unmarked, Remarked, Pourable, Still, Poured, WavesAsk, Wavable, Dry, Waved, WavedOnce, WavedAll}
+use Rattle.flow.specs.Waves.{unmarked, Pourable, Still, Poured, WavesAsk, Wavable, Dry, Waved, WavedOnce}
 use Rattle.flow.proofs.JoinLaws.{placed-most}
 use Rattle.flow.proofs.DrainLaws.{grown-least}
 use Rattle.flow.proofs.SafeLaws.{net-inside}
-use Rattle.flow.proofs.WaveLaws.{flow-none, flow-on, course-after, lack-no-excess, lacks-fall}
+use Rattle.flow.proofs.FlowLaws.{flow-none, flow-on, course-after, lack-no-excess}
 
 -- The least set is one as far as the survey's groups go.
 pub least-same : {s : Survey} {x : Amounts} {la : ℕ → ℕ} {T T′ : Set} → Inside s → Same s T T′ → Least s x la T → Least s x la T′
@@ -66,10 +65,12 @@ module _ {n e c : ℕ} {links fh fn th tn amounts ex la t₀ order₀ by₀ t₁
     starts : (j : ℕ) → j < c → 0 < getD la (getD order₂ j 0) 0
     starts j h = rw (w .grew .order-same j h) (b .starts j h)
 
-    pub wave-pourable : Pourable n e links amounts ex la t₂ order₂ by₂ c c′
+    pub wave-pourable : Pourable n e links fh fn th tn amounts ex la t₂ order₂ by₂ c c′
     wave-pourable =
         record {
           course = p .ask .course;
+          forth = p .ask .forth;
+          back = p .ask .back;
           more = w .grew .more;
           most = placed-most (w .grew .placed);
           group = w .grew .placed .group;

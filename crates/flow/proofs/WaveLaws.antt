@@ -1,100 +1,19 @@
 -- Laws of a wave's way back: turn after turn, until a lack has fallen.
-use Prim.Native.Nat.{ℕ, _+_, _-_, _*_, _≤_, _<_}
+use Prim.Native.Nat.{ℕ, _+_, _≤_, _<_}
 use native.Mathlib.Omega.{arith}
 use mathlib.Core.Path.{_≡_, refl, sym, ap, _∙_}
-use mathlib.Core.Logic.{_⊎_, inl, inr}
+use mathlib.Core.Logic.{inl, inr}
 use mathlib.Core.Bool.{Bool, true, false}
 use mathlib.Core.List.{List}
 use lib.ListN.{length, getD, set, length-set}
 use lib.Seq.{getD-set-same, getD-set-other}
 use lib.Dec.{eqb}
 use borrow.Author.Tests.{eqb-true, eqb-false}
-use Rattle.survey.specs.Sets.{sum}
 use Rattle.survey.specs.Words.{amountsOf}
-use Rattle.survey.proofs.SumOrder.{sum-le}
-use Rattle.flow.specs.Links.{endOf, bare}
+use Rattle.flow.specs.Links.{bare}
 use Rattle.flow.specs.Drains.{Way, pays, gives-back, Hop}
-use Rattle.flow.specs.Sends.{Balanced, Course, Sends}
-use Rattle.flow.specs.Waves.{Flowed, lacks, unmarked, Remarked, Ahead, Passed, Turned, rests, sent, TurnedAll, Turnable, Pourable, Still, Poured}
-use Rattle.flow.proofs.SafeLaws.{Sent, sends-sent}
-
--- ---- one flowing after the other
-
-pub flow-none : {n e : ℕ} {links amounts ex la : List ℕ} → Flowed n e links amounts ex la amounts ex la
-flow-none =
-    record {
-      keeps = λ w b. b;
-      falls = λ g. omega arith;
-      amounts-long = refl;
-      ex-long = refl;
-      la-long = refl;
-      amounts-rest = λ i h. refl;
-      ex-rest = λ g h. refl;
-      la-rest = λ g h. refl;
-    }
-
-pub flow-on :
-    {n e : ℕ} {links amounts ex la amounts′ ex′ la′ amounts″ ex″ la″ : List ℕ} → Flowed n e links amounts ex la amounts′ ex′ la′
-    → Flowed n e links amounts′ ex′ la′ amounts″ ex″ la″ → Flowed n e links amounts ex la amounts″ ex″ la″
-flow-on a b =
-    record {
-      keeps = λ w h. b .keeps w (a .keeps w h);
-      falls = λ g. omega (arith, a .falls g, b .falls g);
-      amounts-long = b .amounts-long ∙ a .amounts-long;
-      ex-long = b .ex-long ∙ a .ex-long;
-      la-long = b .la-long ∙ a .la-long;
-      amounts-rest = λ i h. b .amounts-rest i h ∙ a .amounts-rest i h;
-      ex-rest = λ g h. b .ex-rest g h ∙ a .ex-rest g h;
-      la-rest = λ g h. b .la-rest g h ∙ a .la-rest g h;
-    }
-
-pub course-after :
-    {n e : ℕ} {links amounts ex la amounts′ ex′ la′ : List ℕ} → Course n e links amounts ex la → Flowed n e links amounts ex la amounts′ ex′ la′ → Course n e links amounts′ ex′ la′
-course-after c f =
-    record {
-      net = c .net;
-      no-cycle = c .no-cycle;
-      amounts-long = omega (arith, c .amounts-long, f .amounts-long);
-      ex-long = omega (arith, c .ex-long, f .ex-long);
-      la-long = omega (arith, c .la-long, f .la-long);
-      safe =
-          record {
-            weights = c .safe .weights;
-            balanced = f .keeps (c .safe .weights) (c .safe .balanced);
-            lean = λ g l. omega (arith, c .safe .lean g l, f .falls g);
-            small = c .safe .small;
-          };
-    }
-
--- the total lack does not rise
-pub lacks-fall : {n e : ℕ} {links amounts ex la amounts′ ex′ la′ : List ℕ} → Flowed n e links amounts ex la amounts′ ex′ la′ → lacks n la′ ≤ lacks n la
-lacks-fall {n} {la = la} {la′ = la′} f = sum-le n (λ g. getD la′ g 0) (λ g. getD la g 0) (λ g l. f .falls g)
-
--- a group with a lack has no excess
-pub lack-no-excess : {n e : ℕ} {links amounts ex la : List ℕ} → Course n e links amounts ex la → (g : ℕ) → g < n → 0 < getD la g 0 → getD ex g 0 ≡ 0
-lack-no-excess c g l p = omega (arith, c .safe .balanced .above g l, c .safe .balanced .below g l)
-
--- ---- a turn
-
-pub turn-sent :
-    {n e i : ℕ} {links amounts ex la order by amounts′ ex′ la′ : List ℕ} → Course n e links amounts ex la → Hop (bare n e links) (amountsOf amounts) order by i
-    → 0 < getD ex (getD order i 0) 0 → Sends (getD by i 0) (getD order i 0) links amounts ex la amounts′ ex′ la′ → Turned n e links amounts ex la order i amounts′ ex′ la′ 1
-turn-sent {n} {e} {i} {links} {amounts} {ex} {la} {order} {by} {amounts′} {ex′} {la′} c hop pos m = sent (s .flowed) (s .rises) (to (s .passed pos))
-  where
-    s : Sent n e links amounts ex la amounts′ ex′ la′ (getD order i 0) (getD order (hop .earlier) 0)
-    s = sends-sent c (hop .link) (hop .way) m
-
-    to : (lacks n la′ < lacks n la) ⊎ (((h : ℕ) → getD la′ h 0 ≡ getD la h 0) × (0 < getD ex′ (getD order (hop .earlier) 0) 0)) → Passed n la ex′ la′ order i
-    to (inl f) = inl f
-    to (inr f) = inr (f .0, (hop .earlier, hop .before, f .1))
-
-pub turned-one : {n e i r : ℕ} {links amounts ex la order amounts′ ex′ la′ : List ℕ} → Turned n e links amounts ex la order i amounts′ ex′ la′ r → r ≤ 1
-turned-one (rests z) = omega arith
-turned-one (sent f up passed) = omega arith
-
-turned-flowed : {n e i r : ℕ} {links amounts ex la order amounts′ ex′ la′ : List ℕ} → Turned n e links amounts ex la order i amounts′ ex′ la′ r → Flowed n e links amounts ex la amounts′ ex′ la′
-turned-flowed (rests z) = flow-none
-turned-flowed (sent f up passed) = f
+use Rattle.flow.specs.Waves.{Flowed, lacks, unmarked, Remarked, Ahead, Passed, Rises, Turned, rests, sent, Turnable, Pourable, Still, Poured}
+use Rattle.flow.proofs.FlowLaws.{flow-none, flow-on, course-after, lacks-fall, lack-no-excess, turned-flowed, turned-one}
 
 -- ---- the marks of the groups that are passed
 
@@ -143,7 +62,7 @@ pub record Pouring (n e : ℕ) (links amounts₀ ex₀ la₀ t₀ order by : Lis
   pub ahead : Ahead n t order i
   pub went : Went n amounts₀ ex₀ la₀ amounts ex la order count i r
 
-module _ {n e started count : ℕ} {links amounts₀ ex₀ la₀ t₀ order by : List ℕ} (p : Pourable n e links amounts₀ ex₀ la₀ t₀ order by started count) where
+module _ {n e started count : ℕ} {links fh fn th tn amounts₀ ex₀ la₀ t₀ order by : List ℕ} (p : Pourable n e links fh fn th tn amounts₀ ex₀ la₀ t₀ order by started count) where
   pub pour-begins : Pouring n e links amounts₀ ex₀ la₀ t₀ order by started count amounts₀ ex₀ la₀ t₀ 0 count
   pour-begins =
       record {
@@ -158,22 +77,37 @@ module _ {n e started count : ℕ} {links amounts₀ ex₀ la₀ t₀ order by :
       }
 
   module _ {amounts ex la t : List ℕ} {r m i : ℕ} (w : Pouring n e links amounts₀ ex₀ la₀ t₀ order by started count amounts ex la t r m) (at : m ≡ i + 1) (on : started ≤ i) where
-    pub pour-turnable : Turnable n e links amounts ex la t order by i
+    within : i < count
+    within = omega (arith, w .within)
+
+    hop : Hop (bare n e links) (amountsOf amounts) order by i
+    hop = w .hops i on (omega arith)
+
+    room : n ≤ length t
+    room = omega (arith, w .remarked .long, p .t-long)
+
+    -- who stands before place i is not passed yet
+    marked-after : (j : ℕ) → j < i → getD (set t (getD order i 0) 2) (getD order j 0) 0 ≡ 1
+    marked-after j b = getD-set-other t (getD order i 0) (getD order j 0) 2 0 (p .once j i b within) ∙ w .marked j (omega arith)
+
+    -- the group at place i is passed, and one before it stands at the other end of its link
+    pub pour-turnable : Turnable n e (getD order i 0) (getD by i 0) links fh fn th tn amounts ex la (set t (getD order i 0) 2)
     pour-turnable =
         record {
           course = course-after (p .course) (w .flowed);
-          group = p .group i (omega (arith, w .within));
-          hop = w .hops i on (omega arith);
-          marked = w .marked i (omega arith);
-          ahead = rw at at (w .ahead);
-          t-long = omega (arith, w .remarked .long, p .t-long);
-          order-long = omega (arith, w .within, p .most, p .order-long);
-          by-long = omega (arith, w .within, p .most, p .by-long);
+          below = p .group i within;
+          link = hop .link;
+          p = getD order (hop .earlier) 0;
+          way = hop .way;
+          mark = marked-after (hop .earlier) (hop .before);
+          forth = p .forth;
+          back = p .back;
+          t-long = simp length-set room;
         }
 
     -- what has not sent yet can still send: an amount falls only where the link's own from sends
     hops-after :
-        (amounts′ : List ℕ) → ((k : ℕ) → (endOf links 0 k ≡ getD order i 0 → ⊥) → amountsOf amounts k ≤ amountsOf amounts′ k)
+        (amounts′ : List ℕ) → Rises (getD order i 0) links amounts amounts′
         → (j : ℕ) → started ≤ j → j < i → Hop (bare n e links) (amountsOf amounts′) order by j
     hops-after amounts′ up j a b =
         let h = w .hops j a (omega arith) in
@@ -182,13 +116,12 @@ module _ {n e started count : ℕ} {links amounts₀ ex₀ la₀ t₀ order by :
         stays : {q : ℕ} → Way (bare n e links) (amountsOf amounts) (getD by j 0) (getD order j 0) q → Way (bare n e links) (amountsOf amounts′) (getD by j 0) (getD order j 0) q
         stays (pays to from) = pays to from
         stays (gives-back from to has) =
-            gives-back from to (omega (arith, up (getD by j 0) (λ z. p .once j i b (omega (arith, w .within)) (sym from ∙ z))))
+            gives-back from to (omega (arith, up (getD by j 0) (λ z. p .once j i b within (sym from ∙ z))))
 
-    -- who stands before place i is not passed yet
-    marked-after : (j : ℕ) → j < i → getD (set t (getD order i 0) 2) (getD order j 0) 0 ≡ 1
-    marked-after j b = getD-set-other t (getD order i 0) (getD order j 0) 2 0 (p .once j i b (omega (arith, w .within))) ∙ w .marked j (omega arith)
+    ahead : Ahead n (set t (getD order i 0) 2) order i
+    ahead = passed-ahead t order i (p .group i within) room (rw at at (w .ahead))
 
-    went-after : {amounts′ ex′ la′ : List ℕ} {r′ : ℕ} → Turned n e links amounts ex la order i amounts′ ex′ la′ r′ → Went n amounts₀ ex₀ la₀ amounts′ ex′ la′ order count i (r + r′)
+    went-after : {amounts′ ex′ la′ : List ℕ} {r′ : ℕ} → Turned n e (getD order i 0) links amounts ex la (set t (getD order i 0) 2) amounts′ ex′ la′ r′ → Went n amounts₀ ex₀ la₀ amounts′ ex′ la′ order count i (r + r′)
     went-after {r′ = r′} (rests z) = go (w .went)
       where
         go : Went n amounts₀ ex₀ la₀ amounts ex la order count m r → Went n amounts₀ ex₀ la₀ amounts ex la order count i (r + 0)
@@ -205,29 +138,36 @@ module _ {n e started count : ℕ} {links amounts₀ ex₀ la₀ t₀ order by :
             before false q = let other : j ≡ i → ⊥ = eqb-false j i q in omega arith
     went-after {amounts′} {ex′} {la′} (sent f up passed) = go (w .went) passed
       where
-        go : Went n amounts₀ ex₀ la₀ amounts ex la order count m r → Passed n la ex′ la′ order i → Went n amounts₀ ex₀ la₀ amounts′ ex′ la′ order count i (r + 1)
-        go v (inl lower) = fell (omega arith) (omega (arith, lacks-fall (w .flowed)))
-        go (idle a b c d dry) (inr x) = level (omega arith) (λ h. x .0 h ∙ ap (λ l. getD l h 0) d) (x .1 .0) (x .1 .1) (x .1 .2)
-        go (fell a b) (inr x) = fell (omega arith) (omega (arith, lacks-fall f))
-        go (level a b j c d) (inr x) = level (omega arith) (λ h. x .0 h ∙ b h) (x .1 .0) (x .1 .1) (x .1 .2)
+        -- who is still to come stands before place i
+        come :
+            0 < r + 1 → ((h : ℕ) → getD la′ h 0 ≡ getD la₀ h 0) → (h : ℕ) × (h < n) × (getD (set t (getD order i 0) 2) h 0 ≡ 1) × (0 < getD ex′ h 0)
+            → Went n amounts₀ ex₀ la₀ amounts′ ex′ la′ order count i (r + 1)
+        come pos same x = let f = ahead .at (x .0) (x .1) (x .2) in level pos same (f .0) (f .1) (rw (f .2) (x .3))
 
-    pub pour-on : {amounts′ ex′ la′ t′ : List ℕ} {r′ : ℕ} → TurnedAll n e links amounts ex la t order i amounts′ ex′ la′ t′ r′ → Pouring n e links amounts₀ ex₀ la₀ t₀ order by started count amounts′ ex′ la′ t′ (r + r′) i
-    pour-on {amounts′} {t′ = t′} x =
+        go : Went n amounts₀ ex₀ la₀ amounts ex la order count m r → Passed n la ex′ la′ (set t (getD order i 0) 2) → Went n amounts₀ ex₀ la₀ amounts′ ex′ la′ order count i (r + 1)
+        go v (inl lower) = fell (omega arith) (omega (arith, lacks-fall (w .flowed)))
+        go (idle a b c d dry) (inr x) = come (omega arith) (λ h. x .0 h ∙ ap (λ l. getD l h 0) d) (x .1)
+        go (fell a b) (inr x) = fell (omega arith) (omega (arith, lacks-fall f))
+        go (level a b j c d) (inr x) = come (omega arith) (λ h. x .0 h ∙ b h) (x .1)
+
+    pub pour-on :
+        {amounts′ ex′ la′ : List ℕ} {r′ : ℕ} → Turned n e (getD order i 0) links amounts ex la (set t (getD order i 0) 2) amounts′ ex′ la′ r′
+        → Pouring n e links amounts₀ ex₀ la₀ t₀ order by started count amounts′ ex′ la′ (set t (getD order i 0) 2) (r + r′) i
+    pour-on x =
         record {
           from = on;
-          within = omega (arith, w .within, turned-one (x .turned));
-          flowed = flow-on (w .flowed) (turned-flowed (x .turned));
-          hops = hops (x .turned);
-          remarked = rw (x .passes) (passed-remarked t (getD order i 0) (here .group) (here .t-long) (here .marked) (w .remarked));
-          marked = rw (x .passes) marked-after;
-          ahead = rw (x .passes) (passed-ahead t order i (here .group) (here .t-long) (here .ahead));
-          went = went-after (x .turned);
+          within = omega (arith, w .within, turned-one x);
+          flowed = flow-on (w .flowed) (turned-flowed x);
+          hops = hops x;
+          remarked = passed-remarked t (getD order i 0) (p .group i within) room (w .marked i (omega arith)) (w .remarked);
+          marked = marked-after;
+          ahead = ahead;
+          went = went-after x;
         }
       where
-        here : Turnable n e links amounts ex la t order by i
-        here = pour-turnable
-
-        hops : {amounts′ ex′ la′ : List ℕ} {r′ : ℕ} → Turned n e links amounts ex la order i amounts′ ex′ la′ r′ → (j : ℕ) → started ≤ j → j < i → Hop (bare n e links) (amountsOf amounts′) order by j
+        hops :
+            {amounts′ ex′ la′ : List ℕ} {r′ : ℕ} → Turned n e (getD order i 0) links amounts ex la (set t (getD order i 0) 2) amounts′ ex′ la′ r′ → (j : ℕ) → started ≤ j → j < i
+            → Hop (bare n e links) (amountsOf amounts′) order by j
         hops (rests z) j a b = w .hops j a (omega arith)
         hops {amounts′} (sent f up passed) j a b = hops-after amounts′ up j a b
 

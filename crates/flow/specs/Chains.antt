@@ -1,6 +1,6 @@
 -- Chains: an index of the links by one of their ends. From a group, head is the first link with that end there, and from a link, next is the
 -- next one with the same end; e where there is none.
-use Prim.Native.Nat.{ℕ, _+_, _*_, _<_, _≤_}
+use Prim.Native.Nat.{ℕ, _+_, _<_, _≤_}
 use mathlib.Core.Path.{_≡_}
 use mathlib.Core.List.{List}
 use lib.ListN.{length, getD}

@@ -1,10 +1,10 @@
 -- One send: a group with an excess pays through a link, or gives back what the link brought it, and the one at the other end has so much more.
-use Prim.Native.Nat.{ℕ, _+_, _-_, _*_, _^_, _<_, _≤_}
+use Prim.Native.Nat.{ℕ, _+_, _-_, _^_, _<_, _≤_}
 use mathlib.Core.Path.{_≡_}
 use mathlib.Core.Logic.{_⊎_}
 use mathlib.Core.List.{List}
 use lib.ListN.{length, getD, set}
-use Rattle.survey.specs.Limits.{entryBytes, amountLimit}
+use Rattle.survey.specs.Limits.{amountLimit}
 use Rattle.survey.specs.Survey.{Survey, Cycle}
 use Rattle.survey.specs.Sets.{allGroups}
 use Rattle.survey.specs.Rounds.{Weights, totalPlus}

@@ -1,17 +1,18 @@
 -- Waves: one after the other, until no group that drains has an excess.
-use Prim.Native.Nat.{ℕ, _+_, _*_, _<_, _≤_}
+use Prim.Native.Nat.{ℕ, _*_, _<_, _≤_}
 use mathlib.Core.Path.{_≡_}
 use mathlib.Core.Logic.{_⊎_}
 use mathlib.Core.List.{List}
-use lib.ListN.{length, getD, set}
+use lib.ListN.{length, getD}
 use lib.Dec.{eqb}
 use Rattle.survey.specs.Limits.{entryBytes}
-use Rattle.survey.specs.Sets.{Set, In, sum, outside}
+use Rattle.survey.specs.Sets.{Set, In, sum, only, outside}
 use Rattle.survey.specs.Rounds.{Weights}
-use Rattle.survey.specs.Words.{amountsOf}
+use Rattle.survey.specs.Words.{amountsOf, lent}
+use Rattle.entries.specs.Entries.{EntryWithin}
 use Rattle.flow.specs.Links.{endOf, bare}
-use Rattle.flow.specs.Drains.{Index, Hop, Least}
-use Rattle.flow.specs.Sends.{Balanced, Course}
+use Rattle.flow.specs.Drains.{Index, Way, Hop, Least}
+use Rattle.flow.specs.Sends.{Balanced, Course, Sendable, Sends}
 
 -- The state has changed by sends: whatever weights it was balanced for, it still is; no lack rises; and nothing changes beyond the survey.
 pub record Flowed (n e : ℕ) (links amounts ex la amounts′ ex′ la′ : List ℕ) : Type 0 where
@@ -42,39 +43,73 @@ pub record Remarked (n : ℕ) (t t′ : List ℕ) : Type 0 where
 pub record Ahead (n : ℕ) (t order : List ℕ) (i : ℕ) : Type 0 where
   pub at : (g : ℕ) → g < n → getD t g 0 ≡ 1 → (j : ℕ) × (j < i) × (getD order j 0 ≡ g)
 
--- ---- a turn: the group at place i of the order sends what it can
+-- ---- the turn of group g: it sends what it can to groups that are still to come, which are marked 1
 
-pub record Turnable (n e : ℕ) (links amounts ex la t order by : List ℕ) (i : ℕ) : Type 0 where
+-- a lack has fallen; or none has changed, and a group that is still to come has an excess
+abbrev pub Passed : ℕ → List ℕ → List ℕ → List ℕ → List ℕ → Type 0
+Passed n la ex′ la′ t =
+    (lacks n la′ < lacks n la)
+    ⊎ (((h : ℕ) → getD la′ h 0 ≡ getD la h 0) × ((h : ℕ) × (h < n) × (getD t h 0 ≡ 1) × (0 < getD ex′ h 0)))
+
+-- only amounts on links from g have fallen
+abbrev pub Rises : ℕ → List ℕ → List ℕ → List ℕ → Type 0
+Rises g links amounts amounts′ = (k : ℕ) → (endOf links 0 k ≡ g → ⊥) → amountsOf amounts k ≤ amountsOf amounts′ k
+
+-- what a send through link k, which takes at least so much, asks where the other end, q, is still to come
+pub record Offerable (k g q least : ℕ) (links amounts ex la t : List ℕ) : Type 0 where
+  pub q-within : q < length t
+  pub amount-within : EntryWithin amounts lent k
+  pub sendable : getD t q 0 ≡ 1 → least ≤ amountsOf amounts k → Sendable k g links amounts ex la
+
+pub data Offered (k g q least : ℕ) (links amounts ex la t : List ℕ) : List ℕ → List ℕ → List ℕ → Type 0 where
+  kept : Offered k g q least links amounts ex la t amounts ex la
+  took :
+      {amounts′ ex′ la′ : List ℕ} → getD t q 0 ≡ 1 → least ≤ amountsOf amounts k → Sends k g links amounts ex la amounts′ ex′ la′
+      → Offered k g q least links amounts ex la t amounts′ ex′ la′
+
+-- the least amount of a link through which g sends: paying takes any, giving back one above 0
+abbrev pub leastFor : ℕ → ℕ
+leastFor end = only (eqb end 0) 1
+
+-- along one of the chains of g
+pub record Spillable (n e end g : ℕ) (links head next amounts ex la t : List ℕ) : Type 0 where
   pub course : Course n e links amounts ex la
-  pub group : getD order i 0 < n
-  pub hop : Hop (bare n e links) (amountsOf amounts) order by i
-  pub marked : getD t (getD order i 0) 0 ≡ 1
-  pub ahead : Ahead n t order (i + 1)
+  pub below : g < n
+  pub which : (end ≡ 0) ⊎ (end ≡ 4)
+  pub index : Index n e (endOf links end) head next
   pub t-long : n ≤ length t
-  pub order-long : i < length order
-  pub by-long : i < length by
 
--- a lack has fallen; or none has changed, and a group before place i has an excess
-abbrev pub Passed : ℕ → List ℕ → List ℕ → List ℕ → List ℕ → ℕ → Type 0
-Passed n la ex′ la′ order i =
-    (lacks n la′ < lacks n la) ⊎ (((h : ℕ) → getD la′ h 0 ≡ getD la h 0) × ((j : ℕ) × (j < i) × (0 < getD ex′ (getD order j 0) 0)))
+pub data Spilled (n e g : ℕ) (links amounts ex la t : List ℕ) : List ℕ → List ℕ → List ℕ → Type 0 where
+  none : Spilled n e g links amounts ex la t amounts ex la
+  some :
+      {amounts′ ex′ la′ : List ℕ} → Flowed n e links amounts ex la amounts′ ex′ la′ → Rises g links amounts amounts′ → Passed n la ex′ la′ t
+      → Spilled n e g links amounts ex la t amounts′ ex′ la′
 
--- it had nothing to send and nothing changes; or it has sent, and only amounts on links from it have fallen
-pub data Turned (n e : ℕ) (links amounts ex la order : List ℕ) (i : ℕ) : List ℕ → List ℕ → List ℕ → ℕ → Type 0 where
-  rests : getD ex (getD order i 0) 0 ≡ 0 → Turned n e links amounts ex la order i amounts ex la 0
+-- p, which is still to come, is at the other end of the link through which g joined
+pub record Turnable (n e g k : ℕ) (links from-head from-next to-head to-next amounts ex la t : List ℕ) : Type 0 where
+  pub course : Course n e links amounts ex la
+  pub below : g < n
+  pub link : k < e
+  pub p : ℕ
+  pub way : Way (bare n e links) (amountsOf amounts) k g p
+  pub mark : getD t p 0 ≡ 1
+  pub forth : Index n e (endOf links 0) from-head from-next
+  pub back : Index n e (endOf links 4) to-head to-next
+  pub t-long : n ≤ length t
+
+-- it had nothing to send and nothing changes; or it has sent
+pub data Turned (n e g : ℕ) (links amounts ex la t : List ℕ) : List ℕ → List ℕ → List ℕ → ℕ → Type 0 where
+  rests : getD ex g 0 ≡ 0 → Turned n e g links amounts ex la t amounts ex la 0
   sent :
-      {amounts′ ex′ la′ : List ℕ} → Flowed n e links amounts ex la amounts′ ex′ la′
-      → ((k : ℕ) → (endOf links 0 k ≡ getD order i 0 → ⊥) → amountsOf amounts k ≤ amountsOf amounts′ k)
-      → Passed n la ex′ la′ order i → Turned n e links amounts ex la order i amounts′ ex′ la′ 1
-
-pub record TurnedAll (n e : ℕ) (links amounts ex la t order : List ℕ) (i : ℕ) (amounts′ ex′ la′ t′ : List ℕ) (r : ℕ) : Type 0 where
-  pub turned : Turned n e links amounts ex la order i amounts′ ex′ la′ r
-  pub passes : t′ ≡ set t (getD order i 0) 2
+      {amounts′ ex′ la′ : List ℕ} → Flowed n e links amounts ex la amounts′ ex′ la′ → Rises g links amounts amounts′ → Passed n la ex′ la′ t
+      → Turned n e g links amounts ex la t amounts′ ex′ la′ 1
 
 -- ---- all turns, back through the order to the groups that began it
 
-pub record Pourable (n e : ℕ) (links amounts ex la t order by : List ℕ) (started count : ℕ) : Type 0 where
+pub record Pourable (n e : ℕ) (links from-head from-next to-head to-next amounts ex la t order by : List ℕ) (started count : ℕ) : Type 0 where
   pub course : Course n e links amounts ex la
+  pub forth : Index n e (endOf links 0) from-head from-next
+  pub back : Index n e (endOf links 4) to-head to-next
   pub more : started ≤ count
   pub most : count ≤ n
   pub group : (j : ℕ) → j < count → getD order j 0 < n

@@ -5,5 +5,6 @@ mod drains;
 mod ends;
 pub mod heavy;
 mod sends;
-mod sizes;
+pub mod sizes;
+mod spills;
 mod waves;

@@ -4,38 +4,72 @@ use crate::drains::begin;
 use crate::drains::grow;
 use crate::sends::send;
 use crate::sizes::GROUPS;
-ghost use Rattle.flow.specs.Waves.{Turnable, TurnedAll, Pourable, Poured, Wavable, WavedOnce, WavesAsk, WavedAll};
+use crate::spills::spill;
+ghost use Rattle.flow.specs.Waves.{Turnable, Turned, Pourable, Poured, Wavable, WavedOnce, WavesAsk, WavedAll};
 
-// The turn of the group at place i of the order: it is passed, and sends through the link through which it joined. How many groups sent: 1 or 0.
+// The turn of group g: it sends through link k, through which it joined, and what that doesn't take through its other links, giving back before
+// it pays. How many groups sent: 1 or 0.
 fn turn(
     n: usize,
     e: usize,
+    g: usize,
+    k: usize,
     links: &[u8],
+    from_head: &[u16],
+    from_next: &[u16],
+    to_head: &[u16],
+    to_next: &[u16],
     amounts: &mut [u8],
     excess: &mut [u64],
     lack: &mut [u64],
-    t: &mut [u8],
-    order: &[u16],
-    by: &[u16],
-    i: usize,
+    t: &[u8],
 ) -> usize
-    requires { ⌜ Turnable n e (now links) (now amounts) (now excess) (now lack) (now t) (now order) (now by) i ⌝ }
-    ensures { λ r. ⌜ TurnedAll n e (now (links .entry)) (now (amounts .entry)) (now (excess .entry)) (now (lack .entry)) (now (t .entry)) (now (order .entry)) i (now (amounts .exit)) (now (excess .exit)) (now (lack .exit)) (now (t .exit)) r ⌝ }
+    requires { ⌜ Turnable n e g k (now links) (now «from_head») (now «from_next») (now «to_head») (now «to_next») (now amounts) (now excess) (now lack) (now t) ⌝ }
+    ensures { λ r. ⌜ Turned n e g (now (links .entry)) (now (amounts .entry)) (now (excess .entry)) (now (lack .entry)) (now (t .entry)) (now (amounts .exit)) (now (excess .exit)) (now (lack .exit)) r ⌝ }
 {
-    let g = order[i] as usize;
-    t[g] = 2;
     if excess[g] == 0 {
         return 0;
     }
-    send(by[i] as usize, g, links, amounts, excess, lack);
+    send(k, g, links, amounts, excess, lack);
+    spill(
+        n,
+        e,
+        0,
+        g,
+        links,
+        from_head,
+        from_next,
+        amounts,
+        excess,
+        lack,
+        t,
+    );
+    spill(
+        n,
+        e,
+        4,
+        g,
+        links,
+        to_head,
+        to_next,
+        amounts,
+        excess,
+        lack,
+        t,
+    );
     1
 }
 
-// Back through the order, to the groups that began it: those have a lack and nothing to send. How many groups sent.
+// Back through the order, to the groups that began it: those have a lack and nothing to send. A group that is passed is marked 2, so that those
+// marked 1 are still to come. How many groups sent.
 fn pour(
     n: usize,
     e: usize,
     links: &[u8],
+    from_head: &[u16],
+    from_next: &[u16],
+    to_head: &[u16],
+    to_next: &[u16],
     amounts: &mut [u8],
     excess: &mut [u64],
     lack: &mut [u64],
@@ -45,14 +79,31 @@ fn pour(
     started: usize,
     count: usize,
 ) -> usize
-    requires { ⌜ Pourable n e (now links) (now amounts) (now excess) (now lack) (now t) (now order) (now by) started count ⌝ }
+    requires { ⌜ Pourable n e (now links) (now «from_head») (now «from_next») (now «to_head») (now «to_next») (now amounts) (now excess) (now lack) (now t) (now order) (now by) started count ⌝ }
     ensures { λ r. ⌜ Poured n e (now (links .entry)) (now (amounts .entry)) (now (excess .entry)) (now (lack .entry)) (now (t .entry)) (now (order .entry)) started count (now (amounts .exit)) (now (excess .exit)) (now (lack .exit)) (now (t .exit)) r ⌝ }
 {
     let mut sent = 0;
     let mut i = count;
     while started < i {
         i -= 1;
-        sent += turn(n, e, links, amounts, excess, lack, t, order, by, i);
+        let g = order[i] as usize;
+        let k = by[i] as usize;
+        t[g] = 2;
+        sent += turn(
+            n,
+            e,
+            g,
+            k,
+            links,
+            from_head,
+            from_next,
+            to_head,
+            to_next,
+            amounts,
+            excess,
+            lack,
+            t,
+        );
     }
     sent
 }
@@ -95,6 +146,10 @@ fn wave(
         n,
         e,
         links,
+        from_head,
+        from_next,
+        to_head,
+        to_next,
         amounts,
         excess,
         lack,

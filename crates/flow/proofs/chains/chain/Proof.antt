@@ -3,8 +3,6 @@
 use Prim.Native.Nat.{ℕ, _≤_, _-_, _<_}
 use mathlib.Core.Path.{_≡_, refl, _∙_}
 use native.Mathlib.Omega.{arith}
-use lib.ListN.{length}
-use denote.Ref.{now}
 use Rattle.flow.specs.Links.{endOf}
 use Rattle.flow.proofs.ChainLaws.{Chaining, chain-begins, chain-more, chain-done}
 use Rattle.flow.proofs.chains.chain.Statement.{statement}

@@ -1,7 +1,6 @@
 -- `flow::chains::clear` meets its contract. The invariant: the places below g are filled. Assumes nothing.
 use Prim.Native.Nat.{_≤_, _-_}
 use native.Mathlib.Omega.{arith}
-use lib.ListN.{length, length-set}
 use mathlib.Core.Path.{_≡_}
 use denote.Ref.{now}
 use Rattle.flow.specs.Chains.{Filled}

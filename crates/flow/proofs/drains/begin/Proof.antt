@@ -2,7 +2,6 @@
 use Prim.Native.Nat.{_≤_, _-_}
 use mathlib.Core.Path.{_≡_}
 use native.Mathlib.Omega.{arith}
-use denote.Ref.{now}
 use Rattle.flow.specs.Drains.{Begun}
 use Rattle.flow.proofs.JoinLaws.{begun-none, begun-more, placed-most}
 use Rattle.flow.proofs.drains.begin.Statement.{statement}

@@ -1,5 +1,4 @@
 -- `flow::drains::join_back` meets its contract. Assumes nothing.
-use native.Mathlib.Omega.{arith}
 use Rattle.flow.specs.Drains.{gave, shut}
 use Rattle.flow.proofs.JoinLaws.{above-0}
 use borrow.Author.Needs.{needs}

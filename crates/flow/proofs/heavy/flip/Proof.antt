@@ -1,5 +1,4 @@
 -- `flow::heavy::flip` meets its contract. Assumes nothing.
-use mathlib.Core.Path.{refl}
 use borrow.Author.Tests.{ne-eqb}
 use Rattle.flow.proofs.heavy.flip.Statement.{statement}
 use Rattle.flow.proofs.heavy.flip.Tie as tie

@@ -1,5 +1,4 @@
 -- `flow::heavy::heaviest` meets its contract: what was halved and emptied, what the waves left, and the marks flipped, by `heavy-law`. Assumes nothing.
-use native.Mathlib.Omega.{arith}
 use Rattle.flow.proofs.HeavyLaws.{heavy-ask, heavy-law}
 use borrow.Author.Needs.{needs}
 use Rattle.flow.proofs.heavy.heaviest.Statement.{statement}

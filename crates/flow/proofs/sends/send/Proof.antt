@@ -1,5 +1,5 @@
 -- `flow::sends::send` meets its contract: as `shift` moves it, with what was read. Assumes nothing.
-use mathlib.Core.Path.{_≡_, sym, _∙_}
+use mathlib.Core.Path.{sym, _∙_}
 use native.Mathlib.Omega.{arith}
 use Rattle.flow.specs.Sends.{paid, gave}
 use borrow.Author.Needs.{needs}

@@ -1,7 +1,5 @@
 -- `flow::sends::shift` meets its contract. Assumes nothing.
-use mathlib.Core.Path.{refl, ap, _∙_}
-use native.Mathlib.Omega.{arith}
-use denote.Ref.{now}
+use mathlib.Core.Path.{ap, _∙_}
 use lib.ListN.{length, length-set}
 use Rattle.flow.proofs.SendLaws.{receivable-after}
 use borrow.Author.Needs.{needs}

@@ -9,6 +9,8 @@ use Rattle.flow.proofs.TideLaws.{waved-none, waved-on, ask-after}
 use Rattle.flow.proofs.waves.waves.Statement.{statement}
 use Rattle.flow.proofs.waves.waves.Tie as tie
 
+-- `flow::waves::waves` meets its contract. The invariant: the state has flowed so far. The measure is the total lack. Assumes nothing.
+
 abbrev Inv-loop : tie.InvT-loop
 Inv-loop n e links from-head from-next to-head to-next amounts₀ excess₀ lack₀ t₀ order₀ by₀ amounts excess lack t order by =
     Waved n e links amounts₀ excess₀ lack₀ t₀ amounts excess lack t × (length order ≡ groupLimit) × (length by ≡ groupLimit)

@@ -1,0 +1,51 @@
+-- `flow::spills::offer` meets its contract. Assumes nothing.
+use native.Mathlib.Omega.{arith}
+use Rattle.flow.specs.Waves.{kept, took}
+use borrow.Author.Needs.{needs}
+use Rattle.flow.proofs.spills.offer.Statement.{statement}
+use Rattle.flow.proofs.spills.offer.Tie as tie
+
+shared-slice-read-if1 : tie.Need-shared-slice-read-if1
+shared-slice-read-if1 c = search needs
+
+returns : tie.Need-returns
+returns c = kept
+
+amount-at-requires : tie.Need-amount-at-requires
+amount-at-requires c κs = search needs
+
+same-length : tie.Need-same-length
+same-length c = search needs
+
+returns-2 : tie.Need-returns-2
+returns-2 c = kept
+
+send-requires : tie.Need-send-requires
+send-requires c κs = c .before .before .before .before .before .before .before .before .before .before .before .before .before .pre .sendable (c .before .before .before .before .before .before .if1 .left) (omega (arith, c .before .before .before .if2 .left, c .before .before .before .before .amount-at .ensures))
+
+same-length-2 : tie.Need-same-length-2
+same-length-2 c = search needs
+
+same-length-3 : tie.Need-same-length-3
+same-length-3 c = search needs
+
+same-length-4 : tie.Need-same-length-4
+same-length-4 c = search needs
+
+returns-3 : tie.Need-returns-3
+returns-3 c = took (c .before .before .before .before .before .before .before .before .before .before .before .before .before .if1 .left) (omega (arith, c .before .before .before .before .before .before .before .before .before .before .if2 .left, c .before .before .before .before .before .before .before .before .before .before .before .amount-at .ensures)) (c .before .before .before .before .before .before .send .ensures)
+
+pub offer-spec : {M : Type 1} → statement M
+offer-spec =
+    tie.close
+    (tie.spec
+    shared-slice-read-if1
+    returns
+    amount-at-requires
+    same-length
+    returns-2
+    send-requires
+    same-length-2
+    same-length-3
+    same-length-4
+    returns-3)

@@ -1,0 +1,68 @@
+// What a group cannot send through the link through which it joined, it sends through its other links, to groups whose turn is still to come:
+// those that are marked 1. So a wave carries as much as it can, and fewer are needed.
+use crate::ends::end_of;
+use crate::sends::send;
+use entries::amount_at;
+ghost use mathlib.Core.Path.{_≡_};
+ghost use Rattle.flow.specs.Waves.{Offerable, Offered, leastFor, Spillable, Spilled};
+
+// Through link k to q, if q is still to come and the link has the least amount that a send takes.
+fn offer(
+    k: usize,
+    g: usize,
+    q: usize,
+    least: u64,
+    links: &[u8],
+    amounts: &mut [u8],
+    excess: &mut [u64],
+    lack: &mut [u64],
+    t: &[u8],
+)
+    requires { ⌜ Offerable k g q least (now links) (now amounts) (now excess) (now lack) (now t) ⌝ }
+    ensures { λ r. ⌜ Offered k g q least (now (links .entry)) (now (amounts .entry)) (now (excess .entry)) (now (lack .entry)) (now (t .entry)) (now (amounts .exit)) (now (excess .exit)) (now (lack .exit)) ⌝ }
+{
+    if t[q] != 1 {
+        return;
+    }
+    if amount_at(amounts, 0, 0, k) < least {
+        return;
+    }
+    send(k, g, links, amounts, excess, lack);
+}
+
+// Paying asks no amount of a link, giving back some.
+fn least_for(end: usize) -> u64
+    ensures { λ r. ⌜ r ≡ leastFor end ⌝ }
+{
+    if end == 0 { 1 } else { 0 }
+}
+
+// Along the chain of g by one of its ends, until nothing is left: at 4 along the links to g, which it pays by; at 0 along those from g, by which
+// it gives back.
+pub fn spill(
+    n: usize,
+    e: usize,
+    end: usize,
+    g: usize,
+    links: &[u8],
+    head: &[u16],
+    next: &[u16],
+    amounts: &mut [u8],
+    excess: &mut [u64],
+    lack: &mut [u64],
+    t: &[u8],
+)
+    requires { ⌜ Spillable n e end g (now links) (now head) (now next) (now amounts) (now excess) (now lack) (now t) ⌝ }
+    ensures { λ r. ⌜ Spilled n e g (now (links .entry)) (now (amounts .entry)) (now (excess .entry)) (now (lack .entry)) (now (t .entry)) (now (amounts .exit)) (now (excess .exit)) (now (lack .exit)) ⌝ }
+{
+    let least = least_for(end);
+    let mut k = head[g] as usize;
+    while k < e {
+        if excess[g] == 0 {
+            return;
+        }
+        let q = end_of(links, k, 4 - end);
+        offer(k, g, q, least, links, amounts, excess, lack, t);
+        k = next[k] as usize;
+    }
+}
