@@ -19,8 +19,8 @@ use Rattle.survey.proofs.FewLinks.{gets-fit, pays-fit}
 use Rattle.calls.specs.Calls.{AdmittedCall}
 use Rattle.weights.specs.Marked.{groupsOf, MarkedGroups}
 use Rattle.weights.specs.Put.{Puttable, WeightsPut}
-use Rattle.weights.proofs.MarkedLaws.{sound-groups, dead-within, live-within}
-use Rattle.weights.proofs.PutLaws.{plus-put, minus-put}
+use Rattle.weights.proofs.MarkedLaws.{sound-groups}
+use Rattle.weights.proofs.PutLaws.{plus-put, minus-put, sound-puttable}
 use Rattle.checker.specs.Claims.{EndsMarked, RuleAsks}
 use Rattle.checker.specs.Balances.{fromOf, toOf, amountsAt, Takes, AmountsAsk, AmountsAdded, BalanceLists, BalancesPut}
 
@@ -108,14 +108,7 @@ module _ {n e : ℕ} {groups links marks amounts : List ℕ} (x : AdmittedCall n
 
 module _ {n e d l : ℕ} {groups links marks amounts : List ℕ} (p : RuleAsks n e groups links marks amounts d) (is : l ≡ L (groupsOf n groups) (markedSet marks)) {credits₀ debits₀ : List ℕ} (room : BalanceLists n credits₀ debits₀) where
   pub puttable : Puttable n groups d l credits₀ debits₀
-  puttable =
-      record {
-        some = marked-groups (p .call) .some;
-        dead = rw (p .dead) (dead-within n e groups links (p .call .sound) (markedSet marks));
-        live = rw is (live-within n e groups links (p .call .sound) (markedSet marks));
-        plus-long = room .credits-long;
-        minus-long = room .debits-long;
-      }
+  puttable = sound-puttable n e groups links (p .call .sound) (p .call .groups-long) (markedSet marks) (p .dead) is (room .credits-long) (room .debits-long)
 
   module _ {credits debits : List ℕ} (w : WeightsPut n groups d l credits₀ debits₀ credits debits) where
     put : WeightsPut n groups (D (groupsOf n groups) (markedSet marks)) (L (groupsOf n groups) (markedSet marks)) credits₀ debits₀ credits debits

@@ -14,9 +14,12 @@ pub mod Unique
 pub mod BalanceLaw
 pub mod Draining
 pub mod BalanceRule
+pub mod SameClaims
 -- Rounds.
 pub mod Rounds
 pub mod LastRound
+pub mod RoundSets
+pub mod RoundCount
 -- Refusals: which one is given.
 pub mod Verdicts
 pub mod Orders

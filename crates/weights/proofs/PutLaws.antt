@@ -1,5 +1,5 @@
 -- How a list is filled from the front, place by place.
-use Prim.Native.Nat.{ℕ, _+_, _*_, _<_}
+use Prim.Native.Nat.{ℕ, _+_, _*_, _<_, _≤_}
 use native.Mathlib.Omega.{arith}
 use mathlib.Core.Path.{_≡_, refl, sym, ap, _∙_}
 use mathlib.Core.Bool.{Bool, true, false}
@@ -8,16 +8,19 @@ use lib.ListN.{length, getD, set, length-set}
 use lib.Seq.{getD-set-same, getD-set-other, ext-getD}
 use lib.Dec.{eqb, ltb}
 use borrow.Author.Tests.{eqb-true, eqb-false, ltb-true, ltb-false}
+use Rattle.survey.specs.Limits.{entryBytes}
 use Rattle.survey.specs.Survey as survey
 use Rattle.survey.specs.Words.{surveyAt, surveyOf, groupAt, lent}
 use Rattle.survey.specs.Sets.{Set, total, cost, deadOf, costOf, D, L}
 use Rattle.survey.specs.Rounds.{weights}
 use Rattle.survey.proofs.GivenSurvey.{given-group}
+use Rattle.survey.proofs.Admitted.{Sound}
 use Rattle.entries.specs.declared.counts.Group.{Group}
 use Rattle.entries.specs.declared.counts.Weight.{Weight}
 use Rattle.entries.specs.Counts.{groupOf, GroupIs, CountsFit, WeightIs}
 use Rattle.weights.specs.Marked.{groupsOf}
-use Rattle.weights.specs.Put.{PutFirst, WeightsPut}
+use Rattle.weights.specs.Put.{PutFirst, Puttable, WeightsPut}
+use Rattle.weights.proofs.MarkedLaws.{sound-groups, dead-within, live-within}
 
 module _ {f : ℕ → ℕ} {l : List ℕ} where
   pub put-none : PutFirst 0 f l l
@@ -69,3 +72,16 @@ module _ {n : ℕ} {groups : List ℕ} (e : ℕ) (links : List ℕ) (S : Set) {p
   pub minus-put : (g : ℕ) → g < n → getD minus′ g 0 ≡ weights (surveyOf n e groups links) S .minus g
   unfolding surveyAt total
   minus-put g h = p .minuses .first g h
+
+-- The sums of a set of an admitted survey can be put.
+pub sound-puttable :
+    (n e : ℕ) (groups links : List ℕ) → Sound (surveyOf n e groups links) → entryBytes * n ≤ length groups → (S : Set) {d l : ℕ} → d ≡ D (groupsOf n groups) S
+    → l ≡ L (groupsOf n groups) S → {plus minus : List ℕ} → n ≤ length plus → n ≤ length minus → Puttable n groups d l plus minus
+sound-puttable n e groups links x long S is-d is-l p m =
+    record {
+      some = sound-groups n e groups links x long;
+      dead = rw is-d (dead-within n e groups links x S);
+      live = rw is-l (live-within n e groups links x S);
+      plus-long = p;
+      minus-long = m;
+    }

@@ -1,0 +1,3 @@
+-- What the code of the chooser promises, from the bottom up.
+pub mod Copies
+pub mod Rounds

@@ -1,0 +1,101 @@
+// Rounds: "give each group the weight dead·L - live·D, with D and L of the current set .. Among all closed sets, the empty one included, take the
+// largest of those with greatest total weight. If that total is 0, this set is the pick and the rounds end. Otherwise it becomes the current set."
+use flow::heavy::heaviest;
+use flow::sizes::GROUPS;
+use weights::dead_sum;
+use weights::live_sum;
+use weights::put_weights;
+ghost use Prim.Native.Nat.{_≤_};
+ghost use lib.ListN.{length};
+ghost use Rattle.refusals.specs.Searches.{Tells};
+ghost use Rattle.chooser.specs.Rounds.{AnyAbove, RoundAsks, Round, RoundsAsk, Ended};
+
+// Whether any group's excess is above 0. What the heaviest set weighs is the excess that no group could send on, so this is whether it weighs
+// more than 0.
+fn any_above(n: usize, excess: &[u64]) -> bool
+    requires { ⌜ n ≤ length (now excess) ⌝ }
+    ensures { λ r. ⌜ Tells (AnyAbove n (now (excess .entry))) r ⌝ }
+{
+    let mut g = 0;
+    while g < n {
+        if 0 < excess[g] {
+            return true;
+        }
+        g += 1;
+    }
+    false
+}
+
+// One round: its set becomes the current one, and its amounts are left. Whether its total is above 0: then there is a further round.
+fn round(
+    n: usize,
+    e: usize,
+    groups: &[u8],
+    links: &[u8],
+    from_head: &[u16],
+    from_next: &[u16],
+    to_head: &[u16],
+    to_next: &[u16],
+    current: &mut [u8],
+    amounts: &mut [u8],
+) -> bool
+    requires { ⌜ RoundAsks n e (now groups) (now links) (now «from_head») (now «from_next») (now «to_head») (now «to_next») (now current) (now amounts) ⌝ }
+    ensures { λ r. ⌜ Round n e (now (groups .entry)) (now (links .entry)) (now (current .entry)) (now (amounts .entry)) r (now (current .exit)) (now (amounts .exit)) ⌝ }
+{
+    let d = dead_sum(n, groups, current);
+    let l = live_sum(n, groups, current);
+    let mut plus = [0u64; GROUPS];
+    let mut minus = [0u64; GROUPS];
+    put_weights(n, groups, d, l, &mut plus, &mut minus);
+    heaviest(
+        n,
+        e,
+        links,
+        from_head,
+        from_next,
+        to_head,
+        to_next,
+        &mut plus,
+        &mut minus,
+        current,
+        amounts,
+    );
+    any_above(n, &plus)
+}
+
+// Round after round. "The last round is counted."
+pub fn rounds(
+    n: usize,
+    e: usize,
+    groups: &[u8],
+    links: &[u8],
+    from_head: &[u16],
+    from_next: &[u16],
+    to_head: &[u16],
+    to_next: &[u16],
+    current: &mut [u8],
+    amounts: &mut [u8],
+) -> u64
+    requires { ⌜ RoundsAsk n e (now groups) (now links) (now «from_head») (now «from_next») (now «to_head») (now «to_next») (now current) (now amounts) ⌝ }
+    ensures { λ r. ⌜ Ended n e (now (groups .entry)) (now (links .entry)) (now (current .entry)) (now (amounts .entry)) r (now (current .exit)) (now (amounts .exit)) ⌝ }
+{
+    let mut r = 0;
+    loop {
+        let more = round(
+            n,
+            e,
+            groups,
+            links,
+            from_head,
+            from_next,
+            to_head,
+            to_next,
+            current,
+            amounts,
+        );
+        r += 1;
+        if !more {
+            return r;
+        }
+    }
+}
