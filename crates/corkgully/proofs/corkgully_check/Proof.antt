@@ -1,5 +1,5 @@
-use denote.Ref.{now}
 -- `corkgully::corkgully_check` meets its contract. The checker's answer fits its number. Assumes nothing.
+use denote.Ref.{now}
 use Rattle.corkgully.proofs.Fit.{judgement-small}
 use borrow.Author.Needs.{needs}
 use Rattle.corkgully.proofs.corkgully_check.Statement.{statement}
