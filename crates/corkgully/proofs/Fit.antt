@@ -12,7 +12,7 @@ use Rattle.survey.proofs.SmallAnswers.{reader-small, checker-small}
 use Rattle.survey.proofs.Verdicts.{fine-clear, clear-fine}
 use Rattle.words.specs.Words.{Bytes}
 use Rattle.words.proofs.WordLaws.{word-below}
-use Rattle.refusals.specs.Packed.{SmallRefusal, SmallReading, SmallJudgement}
+use Rattle.boundary.specs.Packed.{SmallRefusal, SmallReading, SmallJudgement}
 use Rattle.reader.proofs.FileLaws.{clear-range}
 use Rattle.reader.proofs.Readings.{blocks-clear}
 

@@ -1,8 +1,8 @@
 // What the ingest tool links: functions on numbers and byte slices. Each answer is one number; crates/refusals packs it.
+use boundary::judgement_number;
+use boundary::reading_number;
 use checker::check;
 use reader::read;
-use refusals::judgement_number;
-use refusals::reading_number;
 ghost use Rattle.corkgully.specs.Numbers.{ReadNumber, CheckNumber};
 
 // A survey file, and two lists to fill: 128 groups and 1,024 links, or longer.
