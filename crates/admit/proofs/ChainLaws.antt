@@ -1,6 +1,6 @@
 -- How admission puts its answer together: from what its tests and searches tell of one list, to the verdict on the survey.
 use Prim.Native.Nat.{ℕ, _<_, _≤_}
-use mathlib.Core.Path.{_≡_, refl, ap}
+use mathlib.Core.Path.{_≡_, refl}
 use mathlib.Core.Bool.{Bool, true, false}
 use mathlib.Core.Logic.{_⊎_, inl, inr, ⊎-elim}
 use mathlib.Core.List.{List, [], _∷_}
@@ -8,20 +8,19 @@ use native.Mathlib.Omega.{arith}
 use lib.Dec.{ltb}
 use borrow.Author.Tests.{ltb-true, ltb-false}
 use Rattle.survey.specs.declared.answers.Refusal.{Refusal}
-use Rattle.survey.specs.declared.answers.Admission.{Admission}
 use Rattle.survey.specs.Limits.{groupLimit, linkLimit}
 use Rattle.survey.specs.Survey.{Survey, ComesTo, one, more, Cycle}
 use Rattle.survey.specs.Words.{surveyAt}
-use Rattle.survey.specs.Refusals.{Verdict, fine, refused, Fault, whole, Clear, Lowest, refusal, Given, First, Answers}
+use Rattle.survey.specs.Refusals.{Verdict, fine, refused, whole, Clear, Lowest, Given, First, Answers}
 use Rattle.survey.specs.Faults.{badRange, badCount, badEnd, badOrder, anyCycle, noDead, listFaults}
-use Rattle.survey.specs.Answers.{admissionVerdict}
-use Rattle.survey.proofs.Verdicts.{given, past, none-left, early, afterwards, fine-clear, answers-one}
+use Rattle.survey.proofs.Verdicts.{given, past, none-left, early, afterwards, fine-clear}
 use Rattle.entries.specs.Entries.{stand}
-use Rattle.refusals.specs.Packed.{refusalAt, refusalWhole}
+use Rattle.refusals.specs.Refused.{refusalAt, refusalWhole}
 use Rattle.refusals.specs.Searches.{Tells}
 use Rattle.refusals.proofs.Looking.{stop-at, stop-whole, whole-clear}
 use Rattle.cycles.specs.Lists.{linkIn, linksIn}
-use Rattle.admit.specs.Lists.{groupIn, groupsIn, linkFaults}
+use Rattle.links.specs.LinkFaults.{linkFaults}
+use Rattle.admit.specs.Lists.{groupIn, groupsIn}
 
 -- ---- 5
 
@@ -115,15 +114,3 @@ module _ (n e : ℕ) (gs : List ℕ) (gb gg : ℕ) (ls : List ℕ) (lb lg : ℕ)
         pub admitted : (noDead groups .at 0 → ⊥) → Answers (listFaults (surveyAt n e gs (stand gb gg) ls (stand lb lg))) fine
         unfolding s surveyAt groupIn
         admitted d = after (afterwards (linkFaults s) (fine-clear (linkFaults s) (links-answer by-links)) (past (whole-clear d) none-left))
-
--- ---- one answer
-
-verdict-one : (r r′ : Admission) → admissionVerdict r ≡ admissionVerdict r′ → r ≡ r′
-verdict-one (Admission.Refused r) (Admission.Refused r′) e = ap (λ (x : Refusal). Admission.Refused x) (cc)
-verdict-one (Admission.Refused r) Admission.Admitted e = let z : _≡_ {A = ℕ} 0 1 = cc in absurd (omega arith)
-verdict-one Admission.Admitted (Admission.Refused r) e = let z : _≡_ {A = ℕ} 0 1 = cc in absurd (omega arith)
-verdict-one Admission.Admitted Admission.Admitted e = refl
-
--- Two answers that admission's promise allows are equal.
-pub admission-one : (fs : List Fault) (r r′ : Admission) → Answers fs (admissionVerdict r) → Answers fs (admissionVerdict r′) → r ≡ r′
-admission-one fs r r′ a b = verdict-one r r′ (answers-one fs a b)

@@ -1,12 +1,10 @@
 -- The lists of a survey, as admission reads them.
 use Prim.Native.Nat.{ℕ, _+_, _<_, _≤_}
-use mathlib.Core.List.{List, [], _∷_}
+use mathlib.Core.List.{List}
 use lib.ListN.{length}
 use Rattle.survey.specs.Limits.{entryBytes}
 use Rattle.survey.specs.Survey.{Group, Survey}
 use Rattle.survey.specs.Words.{Stand, standsAt, groupAt, upTo}
-use Rattle.survey.specs.Refusals.{Fault}
-use Rattle.survey.specs.Faults.{badEnd, badOrder, anyCycle}
 use Rattle.entries.specs.Entries.{stand}
 use Rattle.admit.specs.declared.lists.GroupList.{GroupList}
 
@@ -25,7 +23,3 @@ groupsIn l list = record { n = list .n; e = 0; group = groupIn l list; link = λ
 -- the bytes of each group are there
 pub record GroupsFit (l : List ℕ) (list : GroupList) : Type 0 where
   pub fit : (g : ℕ) → g < list .n → standsAt (stand (list .base) (list .gap)) g + entryBytes ≤ length l
-
--- 9 to 11: what a survey is refused for by its links alone
-abbrev pub linkFaults : Survey → List Fault
-linkFaults s = badEnd s ∷ badOrder s ∷ anyCycle s ∷ []

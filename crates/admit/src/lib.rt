@@ -1,22 +1,18 @@
 // Which surveys are admitted, given as lists: refusals 5 and 8 to 12. The lists may be lent ones or stand in the blocks of a file.
-mod counts;
-mod links;
+mod groups;
 mod lists;
 
-use crate::counts::first_above_limit;
-use crate::counts::none_dead;
-use crate::links::first_not_above;
-use crate::links::first_outside;
+use crate::groups::first_above_limit;
+use crate::groups::none_dead;
 use crate::lists::GroupList;
-use cycles::has_cycle;
 use cycles::limits::GROUPS;
 use cycles::limits::LINKS;
 use cycles::lists::LinkList;
+use links::admit_links;
 use refusals::found::Found;
 use refusals::refused;
 use refusals::refused_whole;
 use survey::answers::Admission;
-ghost use Prim.Native.Nat.{_≤_};
 ghost use Rattle.survey.specs.Limits.{groupLimit, linkLimit};
 ghost use Rattle.survey.specs.Words.{surveyAt};
 ghost use Rattle.survey.specs.Refusals.{Answers};
@@ -24,8 +20,7 @@ ghost use Rattle.survey.specs.Faults.{badRange, listFaults};
 ghost use Rattle.survey.specs.Answers.{admissionVerdict};
 ghost use Rattle.entries.specs.Entries.{stand};
 ghost use Rattle.refusals.specs.Searches.{Tells};
-ghost use Rattle.cycles.specs.Lists.{LinksFit, linksIn};
-ghost use Rattle.admit.specs.Lists.{EntriesFit, linkFaults};
+ghost use Rattle.admit.specs.Lists.{EntriesFit};
 
 // 5
 fn out_of_range(n: usize, e: usize) -> bool
@@ -38,25 +33,6 @@ fn out_of_range(n: usize, e: usize) -> bool
         return true;
     }
     LINKS < e
-}
-
-// 9 to 11: what is said of links alone.
-fn admit_links(links: &[u8], list: LinkList) -> Admission
-    requires { ⌜ LinksFit (now links) list × (list .n ≤ groupLimit) × (list .e ≤ linkLimit) ⌝ }
-    ensures { λ r. ⌜ Answers (linkFaults (linksIn (now (links .entry)) list)) (admissionVerdict r) ⌝ }
-{
-    let outside = first_outside(links, list);
-    if let Found::At(k) = outside {
-        return Admission::Refused(refused(9, k));
-    }
-    let not_above = first_not_above(links, list);
-    if let Found::At(k) = not_above {
-        return Admission::Refused(refused(10, k));
-    }
-    if has_cycle(links, list) {
-        return Admission::Refused(refused_whole(11));
-    }
-    Admission::Admitted
 }
 
 // Group g stands at group_base + 8·g + group_gap·(g / 62), and link k likewise. No list is looked at where n or e is out of range.

@@ -1,8 +1,8 @@
 // A list of groups, lent as bytes or standing in the blocks of a file: how many it has, and where they stand.
-use entries::counts::Group;
+use counts::Group;
 use entries::group_at;
 ghost use Prim.Native.Nat.{_<_};
-ghost use Rattle.entries.specs.Counts.{GroupIs};
+ghost use Rattle.counts.specs.Counts.{GroupIs};
 ghost use Rattle.admit.specs.Lists.{GroupsFit, groupIn};
 
 // Group g stands at base + 8·g + gap·(g / 62), for each g below n.

@@ -17,7 +17,7 @@ use Rattle.survey.proofs.GivenSurvey.{given-n, given-e, given-group, given-link
 use Rattle.words.specs.Words.{Bytes}
 use Rattle.words.proofs.WordLaws.{word-bytes}
 use Rattle.views.proofs.SumLaws.{sums-same}
-use Rattle.blocks.proofs.KindLaws.{BlockSort, header, groups, links, sort-of}
+use Rattle.layout.proofs.KindLaws.{BlockSort, header, groups, links, sort-of}
 use Rattle.blocks.proofs.LaidOut.{Layout, admitted-layout}
 
 -- the pairs that stand in the blocks from block first on are the same in two files

@@ -1,4 +1,2 @@
--- What the code of a file's blocks says beyond crates/survey.
-pub mod Sizes
+-- The rows that are about the blocks of a file.
 pub mod FileFaults
-pub mod Copies

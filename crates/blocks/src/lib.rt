@@ -1,11 +1,6 @@
-// The blocks of a survey file: their kinds and tests, the faults 2 to 7 of a file, and its entries copied into lent lists.
+// The blocks of a survey file: what is asked of each, and the faults 2 to 7 of a file.
 mod file;
-pub mod fill;
-mod kinds;
 mod searches;
 mod tests;
 
 pub use file::block_faults;
-pub use kinds::first_link_block;
-pub use tests::e_in;
-pub use tests::n_in;

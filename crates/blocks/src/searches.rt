@@ -1,9 +1,9 @@
 // The lowest block with a fault, of each of three sorts: a search for each, since each is looked for only when no earlier fault is there.
 use crate::tests::blocks_in;
-use crate::tests::e_in;
 use crate::tests::kind_agrees;
-use crate::tests::n_in;
 use crate::tests::unused_are_zero;
+use layout::e_in;
+use layout::n_in;
 use refusals::found::Found;
 use views::sums::check_agrees;
 ghost use Rattle.survey.specs.Faults.{badCheck, badKind, badUnused};

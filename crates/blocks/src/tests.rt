@@ -1,7 +1,9 @@
 // What is asked of a block beside its check, and of the file as a whole: a test for each.
-use crate::kinds::blocks_needed;
-use crate::kinds::kind_of;
-use crate::kinds::used_words;
+use layout::blocks_needed;
+use layout::e_in;
+use layout::kind_of;
+use layout::n_in;
+use layout::used_words;
 use views::view::block_numbered;
 use views::view::block_word;
 ghost use mathlib.Core.Path.{_≡_};
@@ -10,29 +12,12 @@ ghost use Rattle.survey.specs.SurveyFile.{blockCount, numberIn, kindIn, kindOf,
 ghost use Rattle.survey.specs.Faults.{badLength, badRange};
 ghost use Rattle.refusals.specs.Searches.{Tells};
 ghost use Rattle.views.specs.Views.{Within};
-ghost use Rattle.blocks.specs.Sizes.{Countable};
+ghost use Rattle.layout.specs.Sizes.{Countable};
 
 pub fn blocks_in(file: &[u8]) -> usize
     ensures { λ r. ⌜ r ≡ blockCount (now (file .entry)) ⌝ }
 {
     file.len() / 512
-}
-
-// "Block 0, kind 1: word 2 is n, word 3 is e."
-pub fn n_in(file: &[u8]) -> usize
-    requires { ⌜ Within (now file) 0 ⌝ }
-    ensures { λ r. ⌜ (r ≡ nIn (now (file .entry))) × (r < 2 ^ 32) ⌝ }
-{
-    let n = block_word(file, 0, 2);
-    n as usize
-}
-
-pub fn e_in(file: &[u8]) -> usize
-    requires { ⌜ Within (now file) 0 ⌝ }
-    ensures { λ r. ⌜ (r ≡ eIn (now (file .entry))) × (r < 2 ^ 32) ⌝ }
-{
-    let e = block_word(file, 0, 3);
-    e as usize
 }
 
 // "file length is 0, no multiple of 512, or above 10,752"

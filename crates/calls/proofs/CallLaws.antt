@@ -15,7 +15,7 @@ use Rattle.survey.specs.Answers.{admissionVerdict}
 use Rattle.survey.proofs.Verdicts.{past, fine-clear, answers-one}
 use Rattle.survey.proofs.GivenSurvey.{given-n, given-e}
 use Rattle.survey.proofs.Admitted.{Sound, admitted-sound}
-use Rattle.refusals.specs.Packed.{refusalWhole}
+use Rattle.refusals.specs.Refused.{refusalWhole}
 use Rattle.admit.specs.Lists.{EntriesFit}
 use Rattle.refusals.proofs.Looking.{stop-whole, whole-clear}
 use Rattle.calls.specs.Calls.{AdmittedCall}

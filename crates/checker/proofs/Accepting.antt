@@ -3,7 +3,7 @@
 use Prim.Native.Nat.{ℕ, _≤_, _<_}
 use native.Mathlib.Decide.{ℕ-discrete}
 use native.Mathlib.Omega.{arith}
-use mathlib.Core.Path.{_≡_, refl}
+use mathlib.Core.Path.{_≡_}
 use mathlib.Core.Logic.{_⊎_, inl, inr}
 use mathlib.Core.List.{List, [], _∷_, _++_}
 use lib.ListN.{getD}
@@ -19,15 +19,16 @@ use Rattle.survey.specs.Words.{surveyAt, surveyOf, markedSet, amountsOf}
 use Rattle.survey.specs.Refusals.{Verdict, refused, Fault, Clear, Given, AllClear, Answers}
 use Rattle.survey.specs.Faults.{badMark, badAmount, notClosed, nothingDead, balanceAbove, notLargest, listFaults, claimFaults, chooserFaults, checkerFaults, Admitted}
 use Rattle.survey.specs.Answers.{judgementVerdict}
-use Rattle.survey.proofs.Verdicts.{past, none-left, clear-fine, fine-clear, afterwards, answers-one}
+use Rattle.survey.proofs.Verdicts.{past, none-left, clear-fine, fine-clear, afterwards}
 use Rattle.survey.proofs.Small.{look, look-on}
 use Rattle.survey.proofs.Reaching.{Inside}
 use Rattle.survey.proofs.Totals.{by-test}
 use Rattle.survey.proofs.BalanceRule.{claimed-within, accepted-pick}
 use Rattle.survey.proofs.Claims.{ClaimClear, clear-accepted, accepted-clear}
-use Rattle.refusals.specs.Packed.{refusalAt}
+use Rattle.refusals.specs.Refused.{refusalAt}
 use Rattle.refusals.proofs.Looking.{whole-clear}
 use Rattle.calls.specs.Calls.{AdmittedCall}
+use Rattle.balance.proofs.JudgementOne.{judgement-one}
 use Rattle.calls.proofs.CallLaws.{LongEnough, long-enough, call-clear, admitted-call}
 
 -- ---- faults that stand one after the other
@@ -45,12 +46,6 @@ on-past (f ∷ fs) gs c a = on-past fs gs (c .1) (look-on f (fs ++ gs) (c .0) a)
 
 -- ---- the answer
 
-verdict-one : (r r′ : Judgement) → judgementVerdict r ≡ judgementVerdict r′ → r ≡ r′
-verdict-one (Judgement.Refused r) (Judgement.Refused r′) e = cc
-verdict-one (Judgement.Refused r) Judgement.Accepted e = let z : _≡_ {A = ℕ} 0 1 = cc in absurd (omega arith)
-verdict-one Judgement.Accepted (Judgement.Refused r′) e = let z : _≡_ {A = ℕ} 0 1 = cc in absurd (omega arith)
-verdict-one Judgement.Accepted Judgement.Accepted e = refl
-
 module _ (n e : ℕ) (groups links marks amounts : List ℕ) where
   -- What the checker promises of its answer to a call.
   abbrev pub Checks : Judgement → Type 0
@@ -58,7 +53,7 @@ module _ (n e : ℕ) (groups links marks amounts : List ℕ) where
 
   -- Two answers to a call that the promise allows are equal.
   pub check-one : (r r′ : Judgement) → Checks r → Checks r′ → r ≡ r′
-  check-one r r′ a b = verdict-one r r′ (answers-one (checkerFaults n e groups links marks amounts) a b)
+  check-one r r′ a b = judgement-one (checkerFaults n e groups links marks amounts) r r′ a b
 
   -- What document 01 asks of a claim that is to be accepted, refusals and balance rule together.
   pub record Acceptable : Type 0 where

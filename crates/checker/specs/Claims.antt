@@ -1,18 +1,14 @@
 -- The rows of a claim, cut to what each look needs.
 use Prim.Native.Nat.{ℕ, _*_, _≤_, _<_}
-use mathlib.Core.Path.{_≡_}
-use mathlib.Core.List.{List, [], _∷_}
+use mathlib.Core.List.{List}
 use lib.ListN.{length}
-use Rattle.survey.specs.Limits.{entryBytes, amountLimit}
+use Rattle.survey.specs.Limits.{entryBytes}
 use Rattle.survey.specs.Survey.{Survey}
-use Rattle.survey.specs.Sets.{Set, In, Out, D}
-use Rattle.survey.specs.Balance.{Amounts}
+use Rattle.survey.specs.Sets.{In, Out}
 use Rattle.survey.specs.Words.{linkAt, lent, markedSet, amountsOf}
 use Rattle.survey.specs.Refusals.{Fault, among}
-use Rattle.survey.specs.Faults.{badMark, badAmount, balanceAbove, notLargest}
+use Rattle.survey.specs.Faults.{badMark, badAmount}
 use Rattle.entries.specs.Entries.{EntryWithin}
-use Rattle.calls.specs.Calls.{AdmittedCall}
-use Rattle.weights.specs.Marked.{groupsOf}
 
 -- A survey of n groups and e links, of which no more is said: marks and amounts are looked at by their numbers alone.
 abbrev pub sized : ℕ → ℕ → Survey
@@ -46,13 +42,3 @@ pub record EndsMarked (e : ℕ) (links marks : List ℕ) : Type 0 where
   pub long : entryBytes * e ≤ length links
   pub from : (k : ℕ) → k < e → linkAt links lent k .from < length marks
   pub to : (k : ℕ) → k < e → linkAt links lent k .to < length marks
-
--- 17 and 18
-abbrev pub ruleFaults : Survey → Set → Amounts → List Fault
-ruleFaults s S a = balanceAbove s S a ∷ notLargest s S a ∷ []
-
--- what is known before a balance is looked at: the call is admitted, the amounts are within their limit, and d is D of the claimed set
-pub record RuleAsks (n e : ℕ) (groups links marks amounts : List ℕ) (d : ℕ) : Type 0 where
-  pub call : AdmittedCall n e groups links marks amounts
-  pub small : (k : ℕ) → k < e → amountsOf amounts k ≤ amountLimit
-  pub dead : d ≡ D (groupsOf n groups) (markedSet marks)

@@ -1,4 +1,2 @@
--- What the checker's parts say beyond crates/survey.
+-- What the looks at a claim say beyond crates/survey.
 pub mod Claims
-pub mod Balances
-pub mod Largest

@@ -1,6 +1,5 @@
 // What is looked for in a claim, one mark, amount or link at a time: 13, "a mark is neither 0 nor 1", 14, "an amount above its limit", and 15,
 // "the claimed set isn't closed: p out, q in".
-use crate::sizes::AMOUNT;
 use entries::amount_at;
 use entries::link_at;
 use refusals::found::Found;
@@ -9,6 +8,9 @@ ghost use lib.ListN.{length};
 ghost use Rattle.survey.specs.Limits.{entryBytes};
 ghost use Rattle.refusals.specs.Searches.{Finds, Tells};
 ghost use Rattle.checker.specs.Claims.{markRow, amountRow, Open, closedRow, LinkMarked, EndsMarked};
+
+// "one amount per link, from 0 to 20,000,000,000,000,000"
+const AMOUNT: u64 = 20_000_000_000_000_000;
 
 // 13: the lowest group at fault.
 pub fn first_bad_mark(n: usize, marks: &[u8]) -> Found

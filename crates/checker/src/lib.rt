@@ -1,71 +1,22 @@
-// The checker of claims: one mark for each group and one amount for each link, held to the balance rule. It searches for no pick: that what the
-// rule accepts is the pick is proved of the rule. It writes nothing.
-mod balances;
+// The checker of claims: one mark for each group and one amount for each link, held to the balance rule. It writes nothing.
 mod claims;
-mod largest;
-mod sizes;
 
-use crate::balances::first_above;
-use crate::balances::put_balances;
-use crate::balances::put_lacks;
 use crate::claims::first_above_limit;
 use crate::claims::first_bad_mark;
 use crate::claims::first_open;
-use crate::largest::first_left_out;
-use crate::sizes::GROUPS;
+use balance::rule_faults;
 use calls::admit_call;
-use entries::counts::Dead;
 use refusals::found::Found;
 use refusals::refused;
 use refusals::refused_whole;
 use survey::answers::Admission;
 use survey::answers::Judgement;
 use weights::dead_sum;
-ghost use Rattle.survey.specs.Words.{surveyOf, markedSet, amountsOf};
+ghost use Rattle.survey.specs.Words.{surveyOf, amountsOf};
 ghost use Rattle.survey.specs.Refusals.{Answers};
 ghost use Rattle.survey.specs.Faults.{claimFaults, checkerFaults};
 ghost use Rattle.survey.specs.Answers.{judgementVerdict};
 ghost use Rattle.calls.specs.Calls.{AdmittedCall};
-ghost use Rattle.checker.specs.Claims.{RuleAsks, ruleFaults};
-
-// 17 and 18: the balance rule, past what is said of marks, amounts and links one by one. d is D of the claimed set.
-fn rule_faults(
-    n: usize,
-    e: usize,
-    groups: &[u8],
-    links: &[u8],
-    marks: &[u8],
-    amounts: &[u8],
-    d: Dead,
-) -> Judgement
-    requires { ⌜ RuleAsks n e (now groups) (now links) (now marks) (now amounts) (d .0) ⌝ }
-    ensures { λ r. ⌜ Answers (ruleFaults (surveyOf n e (now (groups .entry)) (now (links .entry))) (markedSet (now (marks .entry))) (amountsOf (now (amounts .entry)))) (judgementVerdict r) ⌝ }
-{
-    let mut credit = [0u64; GROUPS];
-    let mut debit = [0u64; GROUPS];
-    put_balances(
-        n,
-        e,
-        groups,
-        links,
-        marks,
-        amounts,
-        d,
-        &mut credit,
-        &mut debit,
-    );
-    let above = first_above(n, &credit, &debit);
-    if let Found::At(g) = above {
-        return Judgement::Refused(refused(17, g));
-    }
-    // No balance is above 0, so what a debit is above its credit is the lack, and the debits are needed no more.
-    put_lacks(n, &credit, &mut debit);
-    let left_out = first_left_out(n, e, links, marks, amounts, &debit);
-    if let Found::At(g) = left_out {
-        return Judgement::Refused(refused(18, g));
-    }
-    Judgement::Accepted
-}
 
 // 13 to 18, of a claim on an admitted survey.
 fn claim_faults(

@@ -1,10 +1,10 @@
-// What the ingest tool links: functions on numbers and byte slices. Each answer is one number; crates/refusals packs it.
+// What the ingest tool links: functions on numbers and byte slices. Each answer is one number; crates/boundary packs it.
+use boundary::choice_number;
+use boundary::judgement_number;
+use boundary::reading_number;
 use checker::check;
 use chooser::choose;
 use reader::read;
-use refusals::choice_number;
-use refusals::judgement_number;
-use refusals::reading_number;
 ghost use Rattle.corkgully.specs.Numbers.{ReadNumber, ChooseNumber, CheckNumber};
 
 // A survey file, and two lists to fill: 128 groups and 1,024 links, or longer.

@@ -6,14 +6,12 @@ use mathlib.Core.Logic.{_⊎_, inl, inr}
 use mathlib.Core.List.{List}
 use mathlib.Core.Bool.{Bool, true, false}
 use native.Mathlib.Omega.{arith}
-use lib.ListN.{length}
 use lib.Dec.{ltb}
 use borrow.Author.Tests.{ltb-true, ltb-false}
 use Rattle.survey.specs.Limits.{entryBytes}
 use Rattle.survey.specs.Survey as survey
 use Rattle.survey.specs.Words.{longWord, standsAt, lent, entries, amountAt}
 use Rattle.entries.specs.declared.Link.{Link}
-use Rattle.words.specs.Words.{withLongWord}
 use Rattle.entries.specs.Entries.{EntryWithin, LinkIs, withAmount}
 use Rattle.words.proofs.WordLaws.{long-word-with, long-word-with-other}
 

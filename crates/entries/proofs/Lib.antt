@@ -1,3 +1,2 @@
--- The laws of counts and entries.
-pub mod CountLaws
+-- The laws of entries.
 pub mod EntryLaws

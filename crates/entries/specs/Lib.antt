@@ -1,3 +1,2 @@
--- Groups, links, weights and entries of a list, as the code has them.
-pub mod Counts
+-- Entries of a list, as the code has them.
 pub mod Entries

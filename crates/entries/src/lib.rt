@@ -1,17 +1,15 @@
 // Entries: a group, a link or an amount is 8 bytes. Entry k stands at base + 8·k + gap·(k / 62): with base 0 and gap 0 in a lent list, and in
 // the blocks of a file, 62 entries each, with the gap between two blocks' entries. So one function reads an entry from either, with no copy.
-pub mod counts;
-
-use crate::counts::Dead;
-use crate::counts::Group;
-use crate::counts::Live;
+use counts::Dead;
+use counts::Group;
+use counts::Live;
 use words::long_word_at;
 use words::put_long_word;
 use words::word_at;
 ghost use mathlib.Core.Path.{_≡_};
 ghost use Prim.Native.Nat.{_^_, _<_};
 ghost use Rattle.survey.specs.Words.{standsAt, lent, entries, groupAt, linkAt, amountAt};
-ghost use Rattle.entries.specs.Counts.{GroupIs};
+ghost use Rattle.counts.specs.Counts.{GroupIs};
 ghost use Rattle.entries.specs.Entries.{stand, EntryWithin, LinkIs, withAmount};
 
 pub struct Link {

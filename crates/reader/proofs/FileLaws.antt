@@ -14,7 +14,7 @@ use Rattle.survey.proofs.Small.{look-on}
 use Rattle.entries.specs.Entries.{stand}
 use Rattle.views.specs.Views.{Within}
 use Rattle.blocks.specs.FileFaults.{blockFaults}
-use Rattle.blocks.specs.Copies.{Fillable}
+use Rattle.copies.specs.Copies.{Fillable}
 use Rattle.blocks.proofs.LaidOut.{Layout, clear-layout, layout-within, groups-within, links-within}
 use Rattle.admit.specs.Lists.{EntriesFit}
 

@@ -14,7 +14,7 @@ use Rattle.survey.specs.Faults.{OneShort, tooShort, groupList, linkList, survey
 use Rattle.survey.specs.Promises.{Filled, ReaderSays}
 use Rattle.survey.proofs.Verdicts.{past, fine-clear}
 use Rattle.entries.specs.Entries.{stand}
-use Rattle.refusals.specs.Packed.{refusalWhole}
+use Rattle.refusals.specs.Refused.{refusalWhole}
 use Rattle.refusals.proofs.Looking.{stop-whole, whole-clear}
 use Rattle.blocks.specs.FileFaults.{blockFaults}
 use Rattle.reader.specs.Lent.{ListsShort}

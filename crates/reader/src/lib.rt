@@ -2,11 +2,11 @@
 // nothing is at fault: so a refusal has changed nothing.
 use admit::admit;
 use blocks::block_faults;
-use blocks::e_in;
-use blocks::fill::fill;
-use blocks::first_link_block;
-use blocks::n_in;
+use copies::fill;
 use entries::whole_entries;
+use layout::e_in;
+use layout::first_link_block;
+use layout::n_in;
 use refusals::refused_whole;
 use survey::answers::Admission;
 use survey::answers::Reading;

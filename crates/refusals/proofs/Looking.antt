@@ -13,7 +13,7 @@ use Rattle.survey.specs.Answers.{admissionVerdict}
 use Rattle.survey.proofs.Verdicts.{given, past, fine-clear, early}
 use Rattle.refusals.specs.declared.found.Found.{Found}
 use Rattle.refusals.specs.declared.found.Found.the-variants.{At, Missing}
-use Rattle.refusals.specs.Packed.{refusalWhole}
+use Rattle.refusals.specs.Refused.{refusalWhole}
 use Rattle.refusals.specs.Searches.{Finds, Tells}
 
 -- ---- tests

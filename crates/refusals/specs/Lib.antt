@@ -1,3 +1,3 @@
 -- Refusals as the code makes them, and what a search or a test promises.
-pub mod Packed
+pub mod Refused
 pub mod Searches

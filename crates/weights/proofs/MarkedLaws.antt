@@ -15,9 +15,9 @@ use Rattle.survey.proofs.SumOrder.{sum-at-most}
 use Rattle.survey.proofs.Sums.{sum-cong}
 use Rattle.survey.proofs.GivenSurvey.{given-group}
 use Rattle.survey.proofs.Admitted.{Sound, dead-small, cost-small}
-use Rattle.entries.specs.declared.counts.Dead.{Dead}
-use Rattle.entries.specs.declared.counts.Live.{Live}
-use Rattle.entries.specs.Counts.{CountsFit}
+use Rattle.counts.specs.declared.Dead.{Dead}
+use Rattle.counts.specs.declared.Live.{Live}
+use Rattle.counts.specs.Counts.{CountsFit}
 use Rattle.weights.specs.Marked.{groupsOf, SomeGroups}
 
 -- ---- a sum, term by term

@@ -15,9 +15,9 @@ use Rattle.survey.specs.Sets.{Set, total, cost, deadOf, costOf, D, L}
 use Rattle.survey.specs.Rounds.{weights}
 use Rattle.survey.proofs.GivenSurvey.{given-group}
 use Rattle.survey.proofs.Admitted.{Sound}
-use Rattle.entries.specs.declared.counts.Group.{Group}
-use Rattle.entries.specs.declared.counts.Weight.{Weight}
-use Rattle.entries.specs.Counts.{groupOf, GroupIs, CountsFit, WeightIs}
+use Rattle.counts.specs.declared.Group.{Group}
+use Rattle.counts.specs.declared.Weight.{Weight}
+use Rattle.counts.specs.Counts.{groupOf, GroupIs, CountsFit, WeightIs}
 use Rattle.weights.specs.Marked.{groupsOf}
 use Rattle.weights.specs.Put.{PutFirst, Puttable, WeightsPut}
 use Rattle.weights.proofs.MarkedLaws.{sound-groups, dead-within, live-within}

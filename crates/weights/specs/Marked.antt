@@ -5,7 +5,7 @@ use lib.ListN.{length}
 use Rattle.survey.specs.Limits.{groupLimit, entryBytes}
 use Rattle.survey.specs.Survey.{Survey}
 use Rattle.survey.specs.Words.{groupAt, lent, surveyOf}
-use Rattle.entries.specs.Counts.{CountsFit}
+use Rattle.counts.specs.Counts.{CountsFit}
 use Rattle.entries.specs.Entries.{EntryWithin}
 
 -- The survey that has these groups and no link. D, L and weights are said of groups alone, so they are the same in every survey that has them.

@@ -1,10 +1,10 @@
 // D and L of a marked set, and the weights that they give each group: "dead·L - live·D, with D and L of the current set".
-use entries::counts::Dead;
-use entries::counts::Live;
-use entries::counts::add_dead;
-use entries::counts::add_live;
-use entries::counts::cost;
-use entries::counts::weight_of;
+use counts::Dead;
+use counts::Live;
+use counts::add_dead;
+use counts::add_live;
+use counts::cost;
+use counts::weight_of;
 use entries::group_at;
 ghost use mathlib.Core.Path.{_≡_};
 ghost use Rattle.survey.specs.Sets.{only, D, L};

@@ -1,3 +1,4 @@
+-- `admit::admit` meets its contract. A row after the other, each said of the whole survey. Assumes nothing.
 use denote.Ref.{now}
 use Rattle.admit.proofs.ChainLaws.{in-range, refused-range, refused-count, refused-links, refused-dead, admitted}
 use borrow.Author.Needs.{needs}

@@ -1,3 +1,4 @@
+-- `admit::out_of_range` meets its contract. Each of the three bounds, one after the other. Assumes nothing.
 use mathlib.Core.Logic.{inl, inr}
 use Rattle.admit.proofs.ChainLaws.{third}
 use Rattle.admit.proofs.out_of_range.Statement.{statement}

@@ -1,6 +1,6 @@
 -- `checker::claim_faults` meets its contract. A row after the other, each said of the survey. Assumes nothing.
-use Rattle.checker.proofs.Rows.{mark-row, amount-row, closed-row, none-dead, some-dead, rule-asks}
-use Rattle.checker.proofs.Balancing.{ends-marked, marked-groups}
+use Rattle.checker.proofs.Rows.{mark-row, amount-row, closed-row, none-dead, some-dead, ends-marked, rule-asks}
+use Rattle.balance.proofs.Balancing.{marked-groups}
 use Rattle.refusals.proofs.Looking.{stop-at, stop-whole, whole-clear}
 use Rattle.survey.proofs.Verdicts.{past}
 use denote.Ref.{now}

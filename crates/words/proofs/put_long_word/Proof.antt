@@ -26,7 +26,7 @@ same-length c = search needs
 returns : tie.Need-returns
 returns c =
     let a = c .before .before .before .before .before .before .before .before .before .args in
-    cc (stored-words (now (a .b)) (a .i) (a .x), c .before .before .put-word2 .ensures, c .before .before .before .before .before .before .put-word .ensures)
+    rw (c .before .before .put-word2 .ensures, c .before .before .before .before .before .before .put-word .ensures) (stored-words (now (a .b)) (a .i) (a .x))
 
 pub put-long-word-spec : {M : Type 1} → statement M
 put-long-word-spec =

@@ -1,3 +1,4 @@
+-- `admit::lists::group_of` meets its contract. What stands at the place of group g. Assumes nothing.
 use Rattle.admit.proofs.ListLaws.{group-in}
 use denote.Ref.{now}
 use Rattle.admit.proofs.lists.group_of.Statement.{statement}

@@ -1,3 +1,4 @@
+-- `blocks::file::block_faults` meets its contract. Rows 2 to 4, then 5 to 7. Assumes nothing.
 use Rattle.refusals.proofs.Looking.{stops, goes-on}
 use Rattle.blocks.proofs.ChainLaws.{opened-header}
 use Rattle.blocks.specs.FileFaults.{openingFaults, layoutFaults}

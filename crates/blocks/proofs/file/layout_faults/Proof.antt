@@ -1,3 +1,4 @@
+-- `blocks::file::layout_faults` meets its contract. A row after the other. Assumes nothing.
 use Rattle.refusals.proofs.Looking.{told, told-not, stop-at, stop-whole, whole-clear, found-at, found-missing}
 use borrow.Author.Tests.{not-true, not-false}
 use Rattle.survey.proofs.Verdicts.{past, none-left}

@@ -1,3 +1,4 @@
+-- `blocks::file::opening_faults` meets its contract. A row after the other; once the length is good there is a header. Assumes nothing.
 use Rattle.refusals.proofs.Looking.{told, told-not, stop-at, stop-whole, whole-clear, only-lowest, only-clear, found-at, found-missing}
 use Rattle.blocks.proofs.ChainLaws.{has-header}
 use borrow.Author.Tests.{not-true, not-false}

@@ -1,3 +1,4 @@
+-- `blocks::searches::first_bad_unused` meets its contract. The invariant: no block below b is at fault. Assumes nothing.
 use Prim.Native.Nat.{_-_}
 use borrow.Author.Tests.{not-true, not-false}
 use Rattle.refusals.proofs.Looking.{Before, before-first, before-next, found-here, found-none, told, told-not}

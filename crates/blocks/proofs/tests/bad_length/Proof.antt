@@ -1,3 +1,4 @@
+-- `blocks::tests::bad_length` meets its contract. Each of the three ways, one after the other. Assumes nothing.
 use native.Mathlib.Omega.{arith}
 use mathlib.Core.Logic.{inl, inr, ⊎-elim}
 use Rattle.blocks.proofs.tests.bad_length.Statement.{statement}

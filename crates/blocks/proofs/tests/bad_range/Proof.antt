@@ -1,3 +1,4 @@
+-- `blocks::tests::bad_range` meets its contract. Each of the three bounds, one after the other. Assumes nothing.
 use native.Mathlib.Omega.{arith}
 use mathlib.Core.Logic.{inl, inr, ⊎-elim}
 use Rattle.blocks.proofs.tests.bad_range.Statement.{statement}

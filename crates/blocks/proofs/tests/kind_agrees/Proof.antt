@@ -1,3 +1,4 @@
+-- `blocks::tests::kind_agrees` meets its contract. The test for the kind that the block has. Assumes nothing.
 use borrow.Author.Needs.{needs}
 use Rattle.blocks.proofs.tests.kind_agrees.Statement.{statement}
 use Rattle.blocks.proofs.tests.kind_agrees.Tie as tie

@@ -1,3 +1,4 @@
+-- `blocks::tests::number_and_kind` meets its contract. The two words, one after the other. Assumes nothing.
 use Rattle.survey.specs.SurveyFile.{numberIn}
 use borrow.Author.Tests.{eqb-true, eqb-false, not-true, not-false}
 use mathlib.Core.Path.{sym, _∙_}

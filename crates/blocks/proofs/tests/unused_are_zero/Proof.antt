@@ -1,3 +1,4 @@
+-- `blocks::tests::unused_are_zero` meets its contract. The invariant: each unused word below w is 0. Assumes nothing.
 use borrow.Author.Count.{below-more}
 use Rattle.survey.specs.SurveyFile.{blockWord, usedWords}
 use native.Mathlib.Omega.{arith}

@@ -1,5 +1,6 @@
 -- `checker::claims::is_open` meets its contract. The marks of both ends decide. Assumes nothing.
-use Rattle.checker.proofs.Looks.{mark-in, first-not-out, open-told}
+use Rattle.balance.proofs.Looks.{mark-in, first-not-out}
+use Rattle.checker.proofs.Looks.{open-told}
 use denote.Ref.{now}
 use native.Mathlib.Omega.{arith}
 use Rattle.checker.proofs.claims.is_open.Statement.{statement}

@@ -1,0 +1,79 @@
+// 18: the largest set of the balance rule is what lies outside the set that drains: the least one that holds each group with a lack and grows
+// along each link from a group in it, and back along each link to one in it that has an amount.
+use crate::sizes::GROUPS;
+use crate::sizes::LINKS;
+use flow::chains::chain;
+use flow::draining::drained;
+use refusals::found::Found;
+ghost use Prim.Native.Nat.{_<_};
+ghost use lib.ListN.{length};
+ghost use Rattle.refusals.specs.Searches.{Finds, Tells};
+ghost use Rattle.flow.specs.Drains.{Drained};
+ghost use Rattle.balance.specs.Largest.{DrainAsks, Outside, outsideRow, MarksLong, LargestAsks, LeftOutFound};
+
+// Marks the set that drains. The chains are needed for one draining only, so they stand here.
+fn drain(n: usize, e: usize, links: &[u8], amounts: &[u8], lack: &[u64], t: &mut [u8])
+    requires { ⌜ DrainAsks n e (now links) (now amounts) (now lack) (now t) ⌝ }
+    ensures { λ r. ⌜ Drained n e (now (links .entry)) (now (amounts .entry)) (now (lack .entry)) (now (t .entry)) (now (t .exit)) ⌝ }
+{
+    let mut from_head = [0u16; GROUPS];
+    let mut from_next = [0u16; LINKS];
+    let mut to_head = [0u16; GROUPS];
+    let mut to_next = [0u16; LINKS];
+    chain(links, n, e, 0, &mut from_head, &mut from_next);
+    chain(links, n, e, 4, &mut to_head, &mut to_next);
+    drained(
+        n,
+        e,
+        links,
+        amounts,
+        lack,
+        &from_head,
+        &from_next,
+        &to_head,
+        &to_next,
+        t,
+    );
+}
+
+// Neither in the draining set nor claimed.
+fn is_outside(t: &[u8], marks: &[u8], g: usize) -> bool
+    requires { ⌜ (g < length (now t)) × (g < length (now marks)) ⌝ }
+    ensures { λ r. ⌜ Tells (Outside (now (t .entry)) (now (marks .entry)) g) r ⌝ }
+{
+    if t[g] == 1 {
+        return false;
+    }
+    marks[g] != 1
+}
+
+fn first_outside(n: usize, t: &[u8], marks: &[u8]) -> Found
+    requires { ⌜ MarksLong n (now t) (now marks) ⌝ }
+    ensures { λ r. ⌜ Finds (outsideRow n (now (t .entry)) (now (marks .entry))) r ⌝ }
+{
+    let mut g = 0;
+    while g < n {
+        if is_outside(t, marks, g) {
+            return Found::At(g);
+        }
+        g += 1;
+    }
+    Found::Missing
+}
+
+// The lowest group that is in the largest set and not in the claimed one, where no balance is above 0 and lack has what each is below it.
+pub fn first_left_out(
+    n: usize,
+    e: usize,
+    links: &[u8],
+    marks: &[u8],
+    amounts: &[u8],
+    lack: &[u64],
+) -> Found
+    requires { ⌜ LargestAsks n e (now links) (now marks) (now amounts) (now lack) ⌝ }
+    ensures { λ r. ⌜ LeftOutFound n e (now (links .entry)) (now (marks .entry)) (now (amounts .entry)) (now (lack .entry)) r ⌝ }
+{
+    let mut t = [0u8; GROUPS];
+    drain(n, e, links, amounts, lack, &mut t);
+    first_outside(n, &t, marks)
+}

@@ -1,0 +1,2 @@
+-- The laws of the number over the boundary.
+pub mod NumberLaws

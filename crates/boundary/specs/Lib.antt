@@ -1,0 +1,2 @@
+-- Which answers one number can hold.
+pub mod Packed

@@ -1,0 +1,3 @@
+-- The laws of copied entries.
+pub mod CopyLaws
+pub mod FilledSurvey

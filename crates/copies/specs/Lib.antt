@@ -1,0 +1,2 @@
+-- Entries copied from a file into a lent list.
+pub mod Copies

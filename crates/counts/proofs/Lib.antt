@@ -1,0 +1,2 @@
+-- The laws of counts.
+pub mod CountLaws

@@ -1,0 +1,2 @@
+-- Groups and weights, as the code has them.
+pub mod Counts

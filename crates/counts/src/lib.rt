@@ -1,0 +1,74 @@
+// Counts: "A dead count and a live count are never added together or put in one another's place." So each has a type of its own, and what
+// compares them, a cross product or a weight, takes one of each.
+ghost use mathlib.Core.Path.{_≡_};
+ghost use Prim.Native.Nat.{_+_, _*_, _^_, _≤_, _<_};
+ghost use lib.Dec.{ltb};
+ghost use Rattle.survey.specs.Limits.{sumLimit};
+ghost use Rattle.survey.specs.Sets as sets;
+ghost use Rattle.counts.specs.Counts.{groupOf, CountsFit, WeightIs};
+
+// A count of dead objects, or a sum of such.
+pub struct Dead(pub u64);
+
+// A count of live objects, or a sum of such; also what opening a group costs.
+pub struct Live(pub u64);
+
+pub struct Group {
+    pub dead: Dead,
+    pub live: Live,
+}
+
+// A weight is signed: plus - minus. The two are kept apart, so that nothing is subtracted.
+pub struct Weight {
+    pub plus: u64,
+    pub minus: u64,
+}
+
+// "Opening a group costs nothing beyond its live objects."
+pub fn cost(g: Group) -> Live
+    ensures { λ r. ⌜ r .0 ≡ sets.cost (groupOf g) ⌝ }
+{
+    g.live
+}
+
+pub fn cross(l: Live, d: Dead) -> u64
+    requires { ⌜ (l .0 ≤ sumLimit) × (d .0 ≤ sumLimit) ⌝ }
+    ensures { λ r. ⌜ r ≡ l .0 * d .0 ⌝ }
+{
+    let live = l.0;
+    let dead = d.0;
+    live * dead
+}
+
+// The weight of a group, "dead·L - live·D", where d and l are the sums of the current set.
+pub fn weight_of(g: Group, d: Dead, l: Live) -> Weight
+    requires { ⌜ CountsFit (groupOf g) × (d .0 ≤ sumLimit) × (l .0 ≤ sumLimit) ⌝ }
+    ensures { λ r. ⌜ WeightIs r (groupOf g) (d .0) (l .0) ⌝ }
+{
+    let dead = g.dead;
+    let plus = cross(l, dead);
+    let minus = cross(cost(g), d);
+    Weight { plus, minus }
+}
+
+// "A is better than B when L(A)·D(B) < L(B)·D(A)"
+pub fn better(dead_a: Dead, live_a: Live, dead_b: Dead, live_b: Live) -> bool
+    requires { ⌜ («dead_a» .0 ≤ sumLimit) × («live_a» .0 ≤ sumLimit) × («dead_b» .0 ≤ sumLimit) × («live_b» .0 ≤ sumLimit) ⌝ }
+    ensures { λ r. ⌜ r ≡ ltb («live_a» .0 * «dead_b» .0) («live_b» .0 * «dead_a» .0) ⌝ }
+{
+    cross(live_a, dead_b) < cross(live_b, dead_a)
+}
+
+pub fn add_dead(a: Dead, b: Dead) -> Dead
+    requires { ⌜ a .0 + b .0 < 2 ^ 64 ⌝ }
+    ensures { λ r. ⌜ r .0 ≡ a .0 + b .0 ⌝ }
+{
+    Dead(a.0 + b.0)
+}
+
+pub fn add_live(a: Live, b: Live) -> Live
+    requires { ⌜ a .0 + b .0 < 2 ^ 64 ⌝ }
+    ensures { λ r. ⌜ r .0 ≡ a .0 + b .0 ⌝ }
+{
+    Live(a.0 + b.0)
+}

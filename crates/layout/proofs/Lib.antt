@@ -1,0 +1,2 @@
+-- The laws of the kinds of blocks.
+pub mod KindLaws

@@ -1,0 +1,2 @@
+-- The sizes that a file's counts are within.
+pub mod Sizes
