@@ -31,13 +31,10 @@ fn main() {
             call(model::check, &lists),
         );
         speed::print_stack("corkgully_check", call(boundary::check, &lists));
-        #[cfg(feature = "choose")]
-        {
-            let mut lists = lists.clone();
-            speed::print_stack("corkgully_choose", move || {
-                assert_eq!(lists.chosen_by(boundary::choose) % 65_536, 0, "refused");
-            });
-        }
+        let mut lists = lists.clone();
+        speed::print_stack("corkgully_choose", move || {
+            assert_eq!(lists.chosen_by(boundary::choose) % 65_536, 0, "refused");
+        });
     }
 }
 

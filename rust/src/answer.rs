@@ -16,6 +16,16 @@ pub enum Place {
     Link(u64),
 }
 
+impl Place {
+    /// The number of the block, group or link. Nothing prints as 0.
+    pub fn number(&self) -> u64 {
+        match *self {
+            Place::Nothing => 0,
+            Place::Block(k) | Place::Group(k) | Place::Link(k) => k,
+        }
+    }
+}
+
 /// Why the library refused: the lowest number whose fault is present, with the lowest place at
 /// fault under it.
 #[derive(Clone, Copy, Debug, PartialEq, Eq, Hash)]
@@ -114,6 +124,15 @@ mod tests {
             told(10 + 768 + (1023 << 16)),
             "refused 10 at link 1023: a link isn't above the one before it"
         );
+    }
+
+    #[test]
+    fn a_place_is_printed_as_its_number_and_nothing_as_0() {
+        let number = |answer| unpack(answer).unwrap_err().place.number();
+        assert_eq!(number(5), 0);
+        assert_eq!(number(6 + 256 + (2 << 16)), 2);
+        assert_eq!(number(8 + 512 + (3 << 16)), 3);
+        assert_eq!(number(10 + 768 + (1023 << 16)), 1023);
     }
 
     #[test]

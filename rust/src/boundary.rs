@@ -22,7 +22,6 @@ mod exported {
             links_length: usize,
         ) -> u64;
 
-        #[cfg(feature = "choose")]
         pub fn corkgully_choose(
             n: u64,
             e: u64,
@@ -36,7 +35,6 @@ mod exported {
             amounts_length: usize,
         ) -> u64;
 
-        #[cfg(feature = "check")]
         pub fn corkgully_check(
             n: u64,
             e: u64,
@@ -72,7 +70,6 @@ pub fn read(file: &[u8], groups: &mut [u8], links: &mut [u8]) -> u64 {
 
 /// Chooses the pick of a survey. Success is 65,536·rounds, and the first n marks and first e
 /// amounts are written: a claim that [`check`] accepts. A refusal writes nothing.
-#[cfg(feature = "choose")]
 pub fn choose(
     n: u64,
     e: u64,
@@ -100,7 +97,6 @@ pub fn choose(
 
 /// Checks the claim that a set is the pick of a survey. Success, the claim accepted, is 0. Nothing
 /// is written.
-#[cfg(feature = "check")]
 pub fn check(n: u64, e: u64, groups: &[u8], links: &[u8], marks: &[u8], amounts: &[u8]) -> u64 {
     // SAFETY: as in `read`; of n and e nothing is asked either.
     unsafe {

@@ -13,7 +13,6 @@ pub struct Claim {
 
 impl Claim {
     /// The claim that the bytes of its two lists say. A mark is 0 or 1.
-    #[cfg(feature = "choose")]
     pub(crate) fn from_lists(marks: &[u8], amounts: &[u8]) -> Claim {
         let amount = |entry: &[u8]| {
             let mut bytes = [0; ENTRY];

@@ -1,11 +1,11 @@
 //! The ingest tool's side of corkgully: a safe, typed wrapper of the proved library.
 //!
 //! A survey has groups, each with its count of dead and of live objects, and links: a link from p
-//! to q says that an object in p may point to one in q. [`read`] reads a survey file, `choose`
-//! chooses the pick of a survey, and `check` checks a claim that a set of groups is the pick. Each
+//! to q says that an object in p may point to one in q. [`read`] reads a survey file, [`choose`]
+//! chooses the pick of a survey, and [`check`] checks a claim that a set of groups is the pick. Each
 //! says by a [`Refusal`] what is wrong and where.
 //!
-//! The survey of figure 2 has five groups and four links, and its file three blocks of 512 bytes:
+//! The file of a survey with five groups and four links has three blocks of 512 bytes:
 //!
 //! ```
 //! use corkgully::{model, read, Group, Link, Place};
@@ -31,34 +31,30 @@
 //!
 //! - [`boundary`]: the exported functions as they are, on bytes and numbers. The only unsafe code.
 //! - `answer`: what the answer number says, as [`Place`] and [`Refusal`].
-//! - `survey`: [`Survey`], [`Group`] and [`Link`], and their bytes; `claim`: `Claim` and its bytes.
+//! - `survey`: [`Survey`], [`Group`] and [`Link`], and their bytes; `claim`: [`Claim`] and its
+//!   bytes.
 //! - `reader`: [`read`] and [`read_into`].
-//! - `chooser`: `choose` and `choose_into`, where the archive has the chooser (feature `choose`).
-//! - `checker`: `check` and `check_lists`, where it has the checker (feature `check`).
+//! - `chooser`: [`choose`], [`choose_into`] and the [`Pick`] it gives.
+//! - `checker`: [`check`] and [`check_lists`].
 //! - [`model`]: the same functions again in plain Rust, for tests and for comparing speed. It knows
 //!   nothing of the modules above.
 
+#![doc = include_str!("figure2.md")]
 #![deny(unsafe_code)]
 #![warn(missing_docs)]
 
 mod answer;
 pub mod boundary;
-#[cfg(feature = "check")]
 mod checker;
-#[cfg(feature = "choose")]
 mod chooser;
-#[cfg(feature = "check")]
 mod claim;
 pub mod model;
 mod reader;
 mod survey;
 
 pub use answer::{Place, Refusal};
-#[cfg(feature = "check")]
 pub use checker::{check, check_lists};
-#[cfg(feature = "choose")]
 pub use chooser::{choose, choose_into, Pick};
-#[cfg(feature = "check")]
 pub use claim::Claim;
 pub use reader::{read, read_into};
 pub use survey::{Group, Link, Survey, MOST_GROUPS, MOST_LINKS};

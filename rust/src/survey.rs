@@ -57,7 +57,6 @@ impl Survey {
     }
 
     /// The bytes of the groups and of the links, as many as a lent list must have.
-    #[cfg(feature = "check")]
     pub(crate) fn lists(&self) -> (Vec<u8>, Vec<u8>) {
         let groups = self.groups.iter().map(|group| [group.dead, group.live]);
         let links = self.links.iter().map(|link| [link.from, link.to]);
@@ -70,7 +69,6 @@ impl Survey {
 }
 
 /// These bytes, and 0 after them up to so many.
-#[cfg(feature = "check")]
 pub(crate) fn padded(bytes: impl Iterator<Item = u8>, length: usize) -> Vec<u8> {
     let mut list: Vec<u8> = bytes.collect();
     list.resize(list.len().max(length), 0);

@@ -1,13 +1,10 @@
 //! The cases of document 01, each put to the library and to the model: here those that a reader can
 //! meet, and in modules of their own those of the checker and the chooser.
 
-#[cfg(feature = "check")]
 #[path = "document/checker.rs"]
 mod checker;
-#[cfg(feature = "choose")]
 #[path = "document/chooser.rs"]
 mod chooser;
-#[cfg(feature = "check")]
 mod support;
 
 use corkgully::model::{self, Pair};
