@@ -1,0 +1,46 @@
+-- Sets that have nothing, 0:0. Document 01: "Sets with D = 0 take no part: against one whose L is 0 too, a cross product would call everything
+-- equal."
+use Prim.Native.Nat.{ℕ, _*_}
+use native.Mathlib.Nat.{mul-zero, zero-mul}
+use native.Mathlib.Omega.{arith}
+use mathlib.Core.Path.{_≡_, refl, sym, ap, _∙_}
+use mathlib.Core.List.{[], _∷_}
+use Rattle.survey.specs.Survey.{Survey}
+use Rattle.survey.specs.Sets.{Set, noGroup, sum, total, deadOf, costOf, D, L}
+use Rattle.survey.specs.Pick.{Candidate, BetterSet, IsPick}
+use Rattle.survey.specs.Drawings.{setOf, withEmptyGroup}
+use Rattle.survey.proofs.Totals.{not-both, total-zero}
+
+-- a 0:0 set: the empty one, or one whose groups have nothing in them
+pub record HasNothing (s : Survey) (Z : Set) : Type 0 where
+  pub dead : D s Z ≡ 0
+  pub live : L s Z ≡ 0
+
+-- "everything equal": neither of the two is ever better.
+module _ {s : Survey} {Z : Set} (z : HasNothing s Z) where
+  pub products-equal : (B : Set) → L s Z * D s B ≡ L s B * D s Z
+  products-equal B =
+      ap (λ (x : ℕ). x * D s B) (z .live) ∙ zero-mul (D s B) ∙ sym (mul-zero (L s B)) ∙ ap (λ (x : ℕ). L s B * x) (sym (z .dead))
+
+  pub none-beats-nothing : (B : Set) → BetterSet s B Z → ⊥
+  none-beats-nothing B h = omega (arith, products-equal B)
+
+  pub nothing-beats-none : (B : Set) → BetterSet s Z B → ⊥
+  nothing-beats-none B h = omega (arith, products-equal B)
+
+  -- So it would stand unbeaten. "Sets with D = 0 take no part": it is no candidate, and not the pick.
+  pub nothing-no-candidate : Candidate s Z → ⊥
+  nothing-no-candidate c = omega (arith, c .dead, z .dead)
+
+  pub nothing-no-pick : IsPick s Z → ⊥
+  nothing-no-pick p = nothing-no-candidate (p .best .candidate)
+
+-- The empty set is one.
+pub empty-nothing : (s : Survey) → HasNothing s noGroup
+empty-nothing s =
+    record { dead = total-zero s (deadOf s) noGroup (λ g l m. absurd (not-both m refl)); live = total-zero s (costOf s) noGroup (λ g l m. absurd (not-both m refl)) }
+
+-- Such a set in a drawing, 3:0, 5:1 and 0:0: {2} has nothing.
+pub empty-group-nothing : HasNothing withEmptyGroup (setOf (2 ∷ []))
+unfolding sum total
+empty-group-nothing = record { dead = refl; live = refl }

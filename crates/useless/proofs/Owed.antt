@@ -1,0 +1,36 @@
+-- What is owed: "a survey that 01 admits is owed its own pick". With lists long enough, the chooser's promise allows no refusal of it.
+use Prim.Native.Nat.{ℕ}
+use native.Mathlib.Omega.{arith}
+use mathlib.Core.Path.{_≡_, refl, sym, subst}
+use mathlib.Core.List.{List}
+use Rattle.survey.specs.declared.answers.Refusal.{Refusal}
+use Rattle.survey.specs.declared.answers.Choice.{Choice}
+use Rattle.survey.specs.Survey.{Survey}
+use Rattle.survey.specs.Refusals.{Verdict, fine, refused, Fault, AllClear, Answers}
+use Rattle.survey.specs.Faults.{listFaults, chooserFaults, Admitted}
+use Rattle.survey.specs.Answers.{choiceVerdict}
+use Rattle.survey.specs.Promises.{Chooses, ChosenLists, ChooserSays}
+use Rattle.survey.proofs.Verdicts.{answers-one, clear-fine}
+use Rattle.useless.proofs.Calls.{Lends}
+
+-- Where nothing is at fault, nothing is refused.
+pub none-refused : (fs : List Fault) {v : Verdict} {x : Refusal} → AllClear fs → Answers fs v → v ≡ refused x → ⊥
+none-refused fs {v} c a e = let same : v ≡ fine = answers-one fs a (clear-fine fs c) in let z : _≡_ {A = ℕ} 0 1 = cc in omega arith
+
+module _ {s : Survey} {groups links marks amounts : List ℕ} (c : Lends s groups links marks amounts) (admitted : Admitted s) where
+  call-clear : AllClear (chooserFaults (s .n) (s .e) groups links marks amounts)
+  unfolding AllClear
+  call-clear = (c .long, subst (λ (t : Survey). AllClear (listFaults t)) (sym (c .survey)) (admitted .clear))
+
+  -- What an allowed answer is: not a refusal, but the pick of the survey that was lent, with its rounds and with amounts that prove it.
+  pub record Owed (r : Choice) (marks′ amounts′ : List ℕ) : Type 0 where
+    pub rounds : ℕ
+    pub is : r ≡ Choice.Chosen rounds
+    pub chooses : Chooses s rounds marks amounts marks′ amounts′
+
+  pub owed : {r : Choice} {marks′ amounts′ : List ℕ} → ChooserSays (s .n) (s .e) groups links marks amounts r marks′ amounts′ → Owed r marks′ amounts′
+  owed {r} {marks′} {amounts′} x = at r (x .verdict) (subst (λ (t : Survey). ChosenLists t marks amounts r marks′ amounts′) (c .survey) (x .lists))
+    where
+      at : (r : Choice) → Answers (chooserFaults (s .n) (s .e) groups links marks amounts) (choiceVerdict r) → ChosenLists s marks amounts r marks′ amounts′ → Owed r marks′ amounts′
+      at (Choice.Refused y) v l = absurd (none-refused (chooserFaults (s .n) (s .e) groups links marks amounts) call-clear v refl)
+      at (Choice.Chosen k) v l = record { rounds = k; is = refl; chooses = l }
