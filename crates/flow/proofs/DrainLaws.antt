@@ -15,10 +15,12 @@ use Rattle.survey.specs.Words.{markedSet, amountsOf}
 use Rattle.survey.specs.Rounds.{Weights}
 use Rattle.survey.proofs.BalanceLaw.{lack}
 use Rattle.survey.proofs.Draining.{Obeys, Drains}
-use Rattle.flow.specs.Links.{endOf, Given, bare}
+use Rattle.flow.specs.Links.{endOf, bare}
 use Rattle.flow.specs.Chains.{Chainable, Chained}
-use Rattle.flow.specs.Drains.{Net, Index, Placed, Way, pays, gives-back, Growing, Growable, Begun, Grew, GrewForth, GrewBack, Grown, Least, Drained}
-use Rattle.flow.proofs.LinkLaws.{bare-given, bare-obeys, obeys-bare, given-group}
+use Rattle.flow.specs.Drains.{Index, Placed, Way, pays, gives-back, Growing, Growable, Begun, Grew, GrewForth, GrewBack, Grown, Least, Drained}
+use Rattle.flow.specs.Copies.{endIn, copied, flowing, Copy, Copied, Taken}
+use Rattle.flow.proofs.LinkLaws.{bare-given}
+use Rattle.flow.proofs.CopyLaws.{given-alike, alike-least}
 use Rattle.flow.proofs.GrowLaws.{grew-none, grew-on, grew-room}
 
 -- the links of group g are seen to
@@ -36,8 +38,8 @@ pub growth-begins : {s : Survey} {x : Amounts} {t order by : List ℕ} {c : ℕ}
 growth-begins p = record { grew = grew-none p; reached = omega arith; seen = λ j h. absurd (omega arith) }
 
 -- the group at place i
-module _ {n e c₀ c i : ℕ} {links amounts fh fn th tn t₀ order₀ by₀ t order by : List ℕ} (p : Growable n e links amounts fh fn th tn t₀ order₀ by₀ c₀) (w : Growth (bare n e links) (amountsOf amounts) t₀ order₀ by₀ c₀ t order by c i) (l : i < c) where
-  pub growing-forth : Growing 0 n e (getD order i 0) links fh fn t order by c
+module _ {n e c₀ c i : ℕ} {ends amounts fh fn th tn t₀ order₀ by₀ t order by : List ℕ} (p : Growable n e ends amounts fh fn th tn t₀ order₀ by₀ c₀) (w : Growth (copied n e ends) (flowing amounts) t₀ order₀ by₀ c₀ t order by c i) (l : i < c) where
+  pub growing-forth : Growing 0 n e (getD order i 0) ends fh fn t order by c
   growing-forth =
       record {
         net = p .net;
@@ -48,10 +50,10 @@ module _ {n e c₀ c i : ℕ} {links amounts fh fn th tn t₀ order₀ by₀ t o
         joined = w .grew .placed .marked i l;
       }
 
-  module _ {t₁ order₁ by₁ : List ℕ} {c₁ : ℕ} (f : GrewForth n e (getD order i 0) links t order by c t₁ order₁ by₁ c₁) where
-    pub growing-back : Growing 4 n e (getD order i 0) links th tn t₁ order₁ by₁ c₁
+  module _ {t₁ order₁ by₁ : List ℕ} {c₁ : ℕ} (f : GrewForth n e (getD order i 0) ends t order by c t₁ order₁ by₁ c₁) where
+    pub growing-back : Growing 1 n e (getD order i 0) ends th tn t₁ order₁ by₁ c₁
     growing-back =
-        let grew = f .grew (amountsOf amounts) in
+        let grew = f .grew (flowing amounts) in
         record {
           net = p .net;
           index = p .back;
@@ -62,8 +64,8 @@ module _ {n e c₀ c i : ℕ} {links amounts fh fn th tn t₀ order₀ by₀ t o
         }
 
     pub growth-on :
-        {t₂ order₂ by₂ : List ℕ} {c₂ : ℕ} → GrewBack n e (getD order i 0) links amounts t₁ order₁ by₁ c₁ t₂ order₂ by₂ c₂
-        → Growth (bare n e links) (amountsOf amounts) t₀ order₀ by₀ c₀ t₂ order₂ by₂ c₂ (i + 1)
+        {t₂ order₂ by₂ : List ℕ} {c₂ : ℕ} → GrewBack n e (getD order i 0) ends amounts t₁ order₁ by₁ c₁ t₂ order₂ by₂ c₂
+        → Growth (copied n e ends) (flowing amounts) t₀ order₀ by₀ c₀ t₂ order₂ by₂ c₂ (i + 1)
     growth-on {t₂} {order₂} {by₂} {c₂} b =
         record {
           grew = grew-on (w .grew) step;
@@ -71,10 +73,10 @@ module _ {n e c₀ c i : ℕ} {links amounts fh fn th tn t₀ order₀ by₀ t o
           seen = λ j h. go j h (eqb j i) refl;
         }
       where
-        step : Grew (bare n e links) (amountsOf amounts) t order by c t₂ order₂ by₂ c₂
-        step = grew-on (f .grew (amountsOf amounts)) (b .grew)
+        step : Grew (copied n e ends) (flowing amounts) t order by c t₂ order₂ by₂ c₂
+        step = grew-on (f .grew (flowing amounts)) (b .grew)
 
-        go : (j : ℕ) → j < i + 1 → (q : Bool) → eqb j i ≡ q → Seen (bare n e links) (amountsOf amounts) t₂ (getD order₂ j 0)
+        go : (j : ℕ) → j < i + 1 → (q : Bool) → eqb j i ≡ q → Seen (copied n e ends) (flowing amounts) t₂ (getD order₂ j 0)
         go j h true q =
             rw (eqb-true j i q, step .order-same i l)
             (record { forth = λ k m z. b .grew .marks _ (f .seen k m z); back = b .seen })
@@ -85,7 +87,7 @@ module _ {n e c₀ c i : ℕ} {links amounts fh fn th tn t₀ order₀ by₀ t o
             (record { forth = λ k m z. step .marks _ (old .forth k m z); back = λ k m o z. step .marks _ (old .back k m o z) })
 
 pub growth-done :
-    {n e : ℕ} {links t order by t′ order′ by′ : List ℕ} {x : Amounts} {c c′ i : ℕ} → Net n e links → c′ ≤ i → Growth (bare n e links) x t order by c t′ order′ by′ c′ i → Grown (bare n e links) x t order by c t′ order′ by′ c′
+    {n e : ℕ} {ends t order by t′ order′ by′ : List ℕ} {x : Amounts} {c c′ i : ℕ} → Copy n e ends → c′ ≤ i → Growth (copied n e ends) x t order by c t′ order′ by′ c′ i → Grown (copied n e ends) x t order by c t′ order′ by′ c′
 growth-done {t′ = t′} net d w =
     record {
       grew = w .grew;
@@ -104,13 +106,13 @@ growth-done {t′ = t′} net d w =
 
 -- ---- the least set
 
-module _ (links : List ℕ) {n e : ℕ} {la t₀ order₀ t order by t′ order′ by′ : List ℕ} {x : Amounts} {c c′ : ℕ} (b : Begun n la t₀ order₀ t order c) (w : Grown (bare n e links) x t order by c t′ order′ by′ c′) where
+module _ (ends : List ℕ) {n e : ℕ} {la t₀ order₀ t order by t′ order′ by′ : List ℕ} {x : Amounts} {c c′ : ℕ} (b : Begun n la t₀ order₀ t order c) (w : Grown (copied n e ends) x t order by c t′ order′ by′ c′) where
   -- each that has joined is in every set that holds the lacks and obeys the rules: by the place at which it joined
-  within : (U : Set) → Obeys (bare n e links) x U → ((g : ℕ) → g < n → 0 < getD la g 0 → In U g) → (m i : ℕ) → i < m → i < c′ → In U (getD order′ i 0)
+  within : (U : Set) → Obeys (copied n e ends) x U → ((g : ℕ) → g < n → 0 < getD la g 0 → In U g) → (m i : ℕ) → i < m → i < c′ → In U (getD order′ i 0)
   within U o h zero i l k = absurd (omega arith)
   within U o h (suc m) i l k = go (ltb i c) refl (λ j p q. within U o h m j p q)
     where
-      hops : {k g p : ℕ} → k < e → Way (bare n e links) x k g p → In U p → In U g
+      hops : {k g p : ℕ} → k < e → Way (copied n e ends) x k g p → In U p → In U g
       hops {k} link (pays z y) v = rw z at (o .forth k link (rw y v))
       hops {k} link (gives-back z y a) v = rw z at (o .back k link a (rw y v))
 
@@ -122,7 +124,7 @@ module _ (links : List ℕ) {n e : ℕ} {la t₀ order₀ t order by t′ order�
           let hop = w .grew .hops i (ltb-false i c q) k in
           hops (hop .link) (hop .way) (earlier (hop .earlier) (omega (arith, hop .before)) (omega (arith, hop .before)))
 
-  pub grown-least : Least (bare n e links) x (λ g. getD la g 0) (markedSet t′)
+  pub grown-least : Least (copied n e ends) x (λ g. getD la g 0) (markedSet t′)
   grown-least =
       record {
         obeys = w .obeys;
@@ -136,14 +138,6 @@ module _ (links : List ℕ) {n e : ℕ} {la t₀ order₀ t order by t′ order�
                   rw (f .2) at (within U o h c′ (f .0) (f .1) (f .1));
             };
       }
-
-pub least-given : {s : Survey} {n e : ℕ} {links : List ℕ} {x : Amounts} {la : ℕ → ℕ} {T : Set} → Given s n e links → Least (bare n e links) x la T → Least s x la T
-least-given v w =
-    record {
-      obeys = bare-obeys v (w .obeys);
-      holds = λ g l. w .holds g (given-group v l);
-      least = λ U o h. record { has = λ g l. w .least U (obeys-bare v o) (λ i k. h i (rw (v .groups) at k)) .has g (given-group v l) };
-    }
 
 -- Where the lacks are those of the balances, the least set is the one that drains.
 pub least-drains :
@@ -162,11 +156,11 @@ chained-index p c =
     record { chains = c .chains; head-long = omega (arith, c .head-long, p .head-long); next-long = omega (arith, c .next-long, p .next-long) }
 
 pub drained-law :
-    {n e : ℕ} {links amounts la t₀ order₀ t order by t′ order′ by′ : List ℕ} {c c′ : ℕ} → Begun n la t₀ order₀ t order c
-    → Grown (bare n e links) (amountsOf amounts) t order by c t′ order′ by′ c′ → Drained n e links amounts la t₀ t′
-drained-law b w =
+    {n e : ℕ} {links amounts la ends₀ ends x₀ x t₀ order₀ t order by t′ order′ by′ : List ℕ} {c c′ : ℕ} → Copied e links ends₀ ends → Taken e amounts x₀ x → Begun n la t₀ order₀ t order c
+    → Grown (copied n e ends) (flowing x) t order by c t′ order′ by′ c′ → Drained n e links amounts la t₀ t′
+drained-law o y b w =
     record {
-      least = λ s v. least-given v (grown-least _ b w);
+      least = λ s v. alike-least (given-alike v o (λ k l. sym (y .at k l))) (grown-least _ b w);
       bits = w .grew .placed .bits;
       rest = λ g h. w .grew .rest g h ∙ b .rest g h;
       long = w .grew .t-long ∙ b .t-long;

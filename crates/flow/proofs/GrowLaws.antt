@@ -10,9 +10,8 @@ use lib.Dec.{ltb}
 use borrow.Author.Tests.{ltb-true, ltb-false}
 use Rattle.survey.specs.Survey.{Survey}
 use Rattle.survey.specs.Balance.{Amounts}
-use Rattle.survey.specs.Words.{amountsOf}
-use Rattle.flow.specs.Drains.{Net, Placed, Room, Way, pays, gives-back, Hop, Joinable, Growing, Joins, joined, was, JoinsBack, gave, shut, Grew, GrewForth, GrewBack}
-use Rattle.flow.specs.Links.{endOf, bare}
+use Rattle.flow.specs.Drains.{Placed, Room, Way, pays, gives-back, Hop, Joinable, Growing, Joins, joined, was, JoinsBack, gave, shut, Grew, GrewForth, GrewBack}
+use Rattle.flow.specs.Copies.{endIn, copied, flowing, Copy}
 use Rattle.flow.proofs.ChainLaws.{Walking, walk-begins, walk-on}
 use Rattle.flow.proofs.JoinLaws.{placed-room, joined-placed, kept-order, new-order, kept-marks}
 
@@ -121,7 +120,7 @@ grew-room a r =
     }
 
 -- a group that may or may not have joined has room to
-pub joinable : {n e c g k : ℕ} {links t order by : List ℕ} → Net n e links → Room n t order by → Placed n t order c → g < n → k < e → Joinable g k t order by c
+pub joinable : {n e c g k : ℕ} {ends t order by : List ℕ} → Copy n e ends → Room n t order by → Placed n t order c → g < n → k < e → Joinable g k t order by c
 joinable {g = g} net room at below link =
     record {
       few-groups = omega (arith, net .few-groups);
@@ -131,26 +130,26 @@ joinable {g = g} net room at below link =
     }
 
 -- the walk along the links from g, at link k
-pub record WalkingForth (n e g : ℕ) (links t order by : List ℕ) (c : ℕ) (t′ order′ by′ : List ℕ) (c′ k : ℕ) : Type 0 where
-  pub grew : (x : Amounts) → Grew (bare n e links) x t order by c t′ order′ by′ c′
-  pub walk : Walking e (endOf links 0) (endOf links 4) (λ i. Unit) g k t′
+pub record WalkingForth (n e g : ℕ) (ends t order by : List ℕ) (c : ℕ) (t′ order′ by′ : List ℕ) (c′ k : ℕ) : Type 0 where
+  pub grew : (x : Amounts) → Grew (copied n e ends) x t order by c t′ order′ by′ c′
+  pub walk : Walking e (endIn ends 0) (endIn ends 1) (λ i. Unit) g k t′
 
 -- the walk along the links to g, at link k
-pub record WalkingBack (n e g : ℕ) (links amounts t order by : List ℕ) (c : ℕ) (t′ order′ by′ : List ℕ) (c′ k : ℕ) : Type 0 where
-  pub grew : Grew (bare n e links) (amountsOf amounts) t order by c t′ order′ by′ c′
-  pub walk : Walking e (endOf links 4) (endOf links 0) (λ i. 0 < amountsOf amounts i) g k t′
+pub record WalkingBack (n e g : ℕ) (ends amounts t order by : List ℕ) (c : ℕ) (t′ order′ by′ : List ℕ) (c′ k : ℕ) : Type 0 where
+  pub grew : Grew (copied n e ends) (flowing amounts) t order by c t′ order′ by′ c′
+  pub walk : Walking e (endIn ends 1) (endIn ends 0) (λ i. 0 < flowing amounts i) g k t′
 
-module _ {n e g : ℕ} {links head next t₀ order₀ by₀ : List ℕ} {c₀ : ℕ} where
-  pub forth-begins : Growing 0 n e g links head next t₀ order₀ by₀ c₀ → WalkingForth n e g links t₀ order₀ by₀ c₀ t₀ order₀ by₀ c₀ (getD head g 0)
+module _ {n e g : ℕ} {ends head next t₀ order₀ by₀ : List ℕ} {c₀ : ℕ} where
+  pub forth-begins : Growing 0 n e g ends head next t₀ order₀ by₀ c₀ → WalkingForth n e g ends t₀ order₀ by₀ c₀ t₀ order₀ by₀ c₀ (getD head g 0)
   forth-begins p = record { grew = λ x. grew-none (p .placed); walk = walk-begins (p .index .chains .heads g (p .below)) }
 
   pub forth-on :
-      {t order by t′ order′ by′ : List ℕ} {c c′ k q : ℕ} → Growing 0 n e g links head next t₀ order₀ by₀ c₀ → WalkingForth n e g links t₀ order₀ by₀ c₀ t order by c k → k < e
-      → q ≡ endOf links 4 k → Joins q k t order by c t′ order′ by′ c′ → WalkingForth n e g links t₀ order₀ by₀ c₀ t′ order′ by′ c′ (getD next k 0)
+      {t order by t′ order′ by′ : List ℕ} {c c′ k q : ℕ} → Growing 0 n e g ends head next t₀ order₀ by₀ c₀ → WalkingForth n e g ends t₀ order₀ by₀ c₀ t order by c k → k < e
+      → q ≡ endIn ends 1 k → Joins q k t order by c t′ order′ by′ c′ → WalkingForth n e g ends t₀ order₀ by₀ c₀ t′ order′ by′ c′ (getD next k 0)
   forth-on {t} {order} {by} {t′} {order′} {by′} {c} {c′} {k} {q} p w l z j =
       record { grew = λ x. grew-on (w .grew x) (step x); walk = walk-on (w .walk) (step (λ i. 0) .marks) (λ u. rw z at here) l (p .index .chains .nexts k l) }
     where
-      old : Grew (bare n e links) (λ i. 0) t₀ order₀ by₀ c₀ t order by c
+      old : Grew (copied n e ends) (λ i. 0) t₀ order₀ by₀ c₀ t order by c
       old = w .grew (λ i. 0)
 
       below : q < n
@@ -159,17 +158,17 @@ module _ {n e g : ℕ} {links head next t₀ order₀ by₀ : List ℕ} {c₀ : 
       here : getD t′ q 0 ≡ 1
       here = joins-marked (old .placed) below (omega (arith, below, old .t-long, p .room .t-long)) j
 
-      step : (x : Amounts) → Grew (bare n e links) x t order by c t′ order′ by′ c′
+      step : (x : Amounts) → Grew (copied n e ends) x t order by c t′ order′ by′ c′
       step x =
           joins-grew (grew-room old (p .room)) (old .placed) below l (p .below) (old .marks g (p .joined))
           (pays (sym z) (w .walk .hit l)) j
 
-  pub back-begins : {amounts : List ℕ} → Growing 4 n e g links head next t₀ order₀ by₀ c₀ → WalkingBack n e g links amounts t₀ order₀ by₀ c₀ t₀ order₀ by₀ c₀ (getD head g 0)
+  pub back-begins : {amounts : List ℕ} → Growing 1 n e g ends head next t₀ order₀ by₀ c₀ → WalkingBack n e g ends amounts t₀ order₀ by₀ c₀ t₀ order₀ by₀ c₀ (getD head g 0)
   back-begins p = record { grew = grew-none (p .placed); walk = walk-begins (p .index .chains .heads g (p .below)) }
 
   pub back-on :
-      {amounts t order by t′ order′ by′ : List ℕ} {a c c′ k q : ℕ} → Growing 4 n e g links head next t₀ order₀ by₀ c₀ → WalkingBack n e g links amounts t₀ order₀ by₀ c₀ t order by c k → k < e
-      → a ≡ amountsOf amounts k → q ≡ endOf links 0 k → JoinsBack a q k t order by c t′ order′ by′ c′ → WalkingBack n e g links amounts t₀ order₀ by₀ c₀ t′ order′ by′ c′ (getD next k 0)
+      {amounts t order by t′ order′ by′ : List ℕ} {a c c′ k q : ℕ} → Growing 1 n e g ends head next t₀ order₀ by₀ c₀ → WalkingBack n e g ends amounts t₀ order₀ by₀ c₀ t order by c k → k < e
+      → a ≡ flowing amounts k → q ≡ endIn ends 0 k → JoinsBack a q k t order by c t′ order′ by′ c′ → WalkingBack n e g ends amounts t₀ order₀ by₀ c₀ t′ order′ by′ c′ (getD next k 0)
   back-on {amounts} {t} {order} {by} {t′} {order′} {by′} {c} {c′} {k} {q} p w l y z (gave o j) =
       record { grew = grew-on (w .grew) step; walk = walk-on (w .walk) (step .marks) (λ u. rw z at here) l (p .index .chains .nexts k l) }
     where
@@ -179,7 +178,7 @@ module _ {n e g : ℕ} {links head next t₀ order₀ by₀ : List ℕ} {c₀ : 
       here : getD t′ q 0 ≡ 1
       here = joins-marked (w .grew .placed) below (omega (arith, below, w .grew .t-long, p .room .t-long)) j
 
-      step : Grew (bare n e links) (amountsOf amounts) t order by c t′ order′ by′ c′
+      step : Grew (copied n e ends) (flowing amounts) t order by c t′ order′ by′ c′
       step =
           joins-grew (grew-room (w .grew) (p .room)) (w .grew .placed) below l (p .below) (w .grew .marks g (p .joined))
           (gives-back (sym z) (w .walk .hit l) (rw y at o)) j
@@ -189,10 +188,10 @@ module _ {n e g : ℕ} {links head next t₀ order₀ by₀ : List ℕ} {c₀ : 
       none : {m : ℕ} → 0 < m → m ≡ 0 → ⊥
       none u v = omega arith
 
-module _ {n e g : ℕ} {links t₀ order₀ by₀ : List ℕ} {c₀ : ℕ} where
+module _ {n e g : ℕ} {ends t₀ order₀ by₀ : List ℕ} {c₀ : ℕ} where
   -- each link is seen to
-  pub forth-done : {t order by : List ℕ} {c k : ℕ} → e ≤ k → WalkingForth n e g links t₀ order₀ by₀ c₀ t order by c k → GrewForth n e g links t₀ order₀ by₀ c₀ t order by c
+  pub forth-done : {t order by : List ℕ} {c k : ℕ} → e ≤ k → WalkingForth n e g ends t₀ order₀ by₀ c₀ t order by c k → GrewForth n e g ends t₀ order₀ by₀ c₀ t order by c
   forth-done d w = record { grew = w .grew; seen = λ i l. w .walk .seen i (omega arith) tt }
 
-  pub back-done : {amounts t order by : List ℕ} {c k : ℕ} → e ≤ k → WalkingBack n e g links amounts t₀ order₀ by₀ c₀ t order by c k → GrewBack n e g links amounts t₀ order₀ by₀ c₀ t order by c
+  pub back-done : {amounts t order by : List ℕ} {c k : ℕ} → e ≤ k → WalkingBack n e g ends amounts t₀ order₀ by₀ c₀ t order by c k → GrewBack n e g ends amounts t₀ order₀ by₀ c₀ t order by c
   back-done d w = record { grew = w .grew; seen = λ i l. w .walk .seen i (omega arith) }

@@ -4,28 +4,30 @@ use native.Mathlib.Omega.{arith}
 use mathlib.Core.Path.{_≡_, refl, sym, ap, _∙_}
 use mathlib.Core.Bool.{Bool, true, false, not}
 use mathlib.Core.List.{List}
-use lib.ListN.{getD}
+use lib.ListN.{getD, replicate, getD-replicate, length-replicate}
 use lib.Seq.{ext-getD}
 use lib.Dec.{eqb, ltb}
 use borrow.Author.Tests.{ltb-true, ltb-false}
+use Rattle.survey.specs.Limits.{linkLimit}
 use Rattle.survey.specs.Survey.{Survey, ComesTo, one, more, Cycle}
 use Rattle.survey.specs.Sets.{In, Same, sum, only, total, outside}
 use Rattle.survey.specs.Rounds.{Weights}
 use Rattle.survey.specs.Balance.{Amounts, gets, pays, credit, debit}
-use Rattle.survey.specs.Words.{amountsOf, markedSet, standsAt, lent}
+use Rattle.survey.specs.Words.{amountsOf, markedSet}
 use Rattle.survey.proofs.Reaching.{Inside}
 use Rattle.survey.proofs.Sums.{sum-cong, sum-zero}
 use Rattle.survey.proofs.SameSets.{heaviest-same}
 use Rattle.survey.proofs.Unique as unique
 use Rattle.survey.proofs.Draining.{Drains, drained-heaviest}
-use Rattle.flow.specs.Links.{endOf, Given, bare}
-use Rattle.flow.specs.Chains.{Filled}
+use Rattle.flow.specs.Links.{Given, bare}
+use Rattle.flow.specs.Copies.{endIn, copied, flowing, Copyable, Copied, Puttable, Put}
 use Rattle.flow.specs.Drains.{Net}
 use Rattle.flow.specs.Sends.{Balanced}
 use Rattle.flow.specs.Waves.{unmarked, WavesAsk, WavedAll}
 use Rattle.flow.specs.Heavy.{Halved, Flipped, Weighed, Weighable, Proves, Heavy}
 use Rattle.flow.proofs.LinkLaws.{bare-given, given-from, given-to, given-below}
-use Rattle.flow.proofs.DrainLaws.{bits-one, least-given, least-drains}
+use Rattle.flow.proofs.CopyLaws.{Alike, given-alike, alike-least, alike-balanced, alike-no-cycle, net-copyable, net-copy, forth-copy, back-copy}
+use Rattle.flow.proofs.DrainLaws.{bits-one, least-drains}
 use Rattle.flow.proofs.SafeLaws.{amount-small}
 use Rattle.flow.proofs.FlowLaws.{course-after}
 use Rattle.flow.proofs.TideLaws.{least-same}
@@ -40,21 +42,6 @@ module _ {s : Survey} {n e : ℕ} {l : List ℕ} (v : Given s n e l) where
         to = λ k h. let b = given-below v h in rw (← v .groups, given-to v k b) (net .to k b);
       }
 
-  given-gets : (x : Amounts) (g : ℕ) → gets s x g ≡ gets (bare n e l) x g
-  unfolding gets
-  given-gets x g = rw (← v .count) (sum-cong e _ _ (λ k h. ap (λ p. only (eqb p g) (x k)) (given-from v k h)))
-
-  given-pays : (x : Amounts) (g : ℕ) → pays s x g ≡ pays (bare n e l) x g
-  unfolding pays
-  given-pays x g = rw (← v .count) (sum-cong e _ _ (λ k h. ap (λ q. only (eqb q g) (x k)) (given-to v k h)))
-
-  given-balanced : {w : Weights} {x : Amounts} {ex la : List ℕ} → Balanced (bare n e l) w x ex la → Balanced s w x ex la
-  given-balanced {w} {x} b =
-      record {
-        above = λ g h. omega (arith, b .above g (rw (v .groups) h), given-gets x g, given-pays x g);
-        below = λ g h. omega (arith, b .below g (rw (v .groups) h), given-gets x g, given-pays x g);
-      }
-
   -- and the cycles
   bare-comes : {p q : ℕ} → ComesTo (bare n e l) p q → ComesTo s p q
   bare-comes (one k h f t) = one k (rw (v .count) at h) (given-from v k h ∙ f) (given-to v k h ∙ t)
@@ -65,33 +52,15 @@ module _ {s : Survey} {n e : ℕ} {l : List ℕ} (v : Given s n e l) where
 
 -- ---- what begins it
 
--- bytes that are 0 give amounts that are 0
-empty-amounts : {e : ℕ} {l l′ : List ℕ} → Filled l (8 * e) 0 l′ → (k : ℕ) → k < e → amountsOf l′ k ≡ 0
-empty-amounts {e} {l} {l′} f k h =
-    omega (
-      arith,
-      at (standsAt lent k) (omega arith),
-      at (standsAt lent k + 1) (omega arith),
-      at (standsAt lent k + 2) (omega arith),
-      at (standsAt lent k + 3) (omega arith),
-      at (standsAt lent k + 4) (omega arith),
-      at (standsAt lent k + 4 + 1) (omega arith),
-      at (standsAt lent k + 4 + 2) (omega arith),
-      at (standsAt lent k + 4 + 3) (omega arith),
-    )
-  where
-    at : (i : ℕ) → i < 8 * e → getD l′ i 0 ≡ 0
-    at i b = f .first i b
-
 -- with no amounts a balance is a weight
 none-balanced :
-    (links : List ℕ) {n e : ℕ} {plus minus p m : List ℕ} {x : Amounts} {w : Weights} → ((k : ℕ) → k < e → x k ≡ 0) → Halved n plus minus p m → Weighed n plus minus w
-    → Balanced (bare n e links) w x p m
+    (ends : List ℕ) {n e : ℕ} {plus minus p m : List ℕ} {x : Amounts} {w : Weights} → ((k : ℕ) → k < e → x k ≡ 0) → Halved n plus minus p m → Weighed n plus minus w
+    → Balanced (copied n e ends) w x p m
 unfolding gets pays
-none-balanced links {n} {e} {x = x} z h v =
+none-balanced ends {n} {e} {x = x} z h v =
     record {
-      above = λ g l. omega (arith, h .above g l, v .plus-is g l, v .minus-is g l, none (endOf links 0) g, none (endOf links 4) g);
-      below = λ g l. omega (arith, h .below g l, v .plus-is g l, v .minus-is g l, none (endOf links 0) g, none (endOf links 4) g);
+      above = λ g l. omega (arith, h .above g l, v .plus-is g l, v .minus-is g l, none (endIn ends 0) g, none (endIn ends 1) g);
+      below = λ g l. omega (arith, h .below g l, v .plus-is g l, v .minus-is g l, none (endIn ends 0) g, none (endIn ends 1) g);
     }
   where
     never : (t : Bool) → only t 0 ≡ 0
@@ -108,34 +77,51 @@ listed plus minus = record { plus = λ g. getD plus g 0; minus = λ g. getD minu
 listed-weighed : {n : ℕ} (plus minus : List ℕ) → Weighed n plus minus (listed plus minus)
 listed-weighed plus minus = record { plus-is = λ g l. refl; minus-is = λ g l. refl }
 
-module _ {n e : ℕ} {links fh fn th tn plus minus marks amounts p m a : List ℕ} (c : Weighable n e links fh fn th tn plus minus marks amounts) (h : Halved n plus minus p m) (f : Filled amounts (8 * e) 0 a) where
-  pub heavy-ask : WavesAsk n e links fh fn th tn a p m marks
+-- the working arrays as they begin
+abbrev blankEnds : List ℕ
+blankEnds = replicate (2 * linkLimit) 0
+
+abbrev blankAmounts : List ℕ
+blankAmounts = replicate linkLimit 0
+
+pub heavy-copyable : {n e : ℕ} {links fh fn th tn plus minus marks amounts : List ℕ} → Weighable n e links fh fn th tn plus minus marks amounts → Copyable e links blankEnds
+heavy-copyable c = net-copyable (c .net) (omega (arith, c .net .few-links, length-replicate {A = ℕ} (2 * linkLimit) 0))
+
+module _ {n e : ℕ} {links fh fn th tn plus minus marks amounts ends p m : List ℕ} (c : Weighable n e links fh fn th tn plus minus marks amounts) (o : Copied e links blankEnds ends) (h : Halved n plus minus p m) where
+  none-yet : (k : ℕ) → k < e → getD blankAmounts k 0 ≡ 0
+  none-yet k l = getD-replicate linkLimit k 0 0 (omega (arith, c .net .few-links))
+
+  pub heavy-ask : WavesAsk n e ends fh fn th tn blankAmounts p m marks
   unfolding total
   heavy-ask =
       record {
         course =
             record {
-              net = c .net;
-              no-cycle = c .no-cycle;
-              amounts-long = omega (arith, f .long, c .amounts-long);
+              net = net-copy o (c .net) (heavy-copyable c .ends-long);
+              no-cycle = alike-no-cycle {x = λ k. 0} (given-alike (bare-given n e links) o (λ k l. refl)) (c .no-cycle);
+              amounts-long = omega (arith, c .net .few-links, length-replicate {A = ℕ} linkLimit 0);
               ex-long = omega (arith, h .plus-long, c .plus-long);
               la-long = omega (arith, h .minus-long, c .minus-long);
               safe =
                   record {
                     weights = listed plus minus;
-                    balanced = none-balanced links (empty-amounts f) h (listed-weighed plus minus);
+                    balanced = none-balanced ends none-yet h (listed-weighed plus minus);
                     lean = λ g l. omega (arith, h .below g l);
                     small = c .small;
                   };
             };
-        forth = c .forth;
-        back = c .back;
+        forth = forth-copy o (c .forth);
+        back = back-copy o (c .back);
         t-long = c .marks-long;
       }
 
   -- ---- what ends it
 
-  module _ {p′ m′ t a′ marks′ : List ℕ} (w : WavedAll n e links a p m marks a′ p′ m′ t) (x : Flipped n t marks′) where
+  pub heavy-puttable : {p′ m′ t a′ : List ℕ} → WavedAll n e ends blankAmounts p m marks a′ p′ m′ t → Puttable e a′ amounts
+  heavy-puttable w =
+      record { few = c .net .few-links; long = course-after (heavy-ask .course) (w .waved .flowed) .amounts-long; room = c .amounts-long }
+
+  module _ {p′ m′ t a′ marks′ amounts′ : List ℕ} (w : WavedAll n e ends blankAmounts p m marks a′ p′ m′ t) (x : Flipped n t marks′) (y : Put e a′ amounts amounts′) where
     -- the marks are those of the groups that don't drain
     flips : (g : ℕ) → g < n → outside (unmarked t) g ≡ outside (markedSet marks′) g
     flips g l = rw (x .at g l) (at (eqb (getD t g 0) 0))
@@ -144,10 +130,10 @@ module _ {n e : ℕ} {links fh fn th tn plus minus marks amounts p m a : List �
         at true = refl
         at false = refl
 
-    proves : (s : Survey) → Given s n e links → (v : Weights) → Weighed n plus minus v → Proves s v (amountsOf a′) p′ m′ marks′
+    proves : (s : Survey) → Given s n e links → (v : Weights) → Weighed n plus minus v → Proves s v (amountsOf amounts′) p′ m′ marks′
     proves s given v weighed =
         record {
-          heaviest = heaviest-same inside (record { at = λ g l. back (markedSet marks′ g) }) (drained-heaviest s (amountsOf a′) v inside drains dry);
+          heaviest = heaviest-same inside (record { at = λ g l. back (markedSet marks′ g) }) (drained-heaviest s (amountsOf amounts′) v inside drains dry);
           drains = drains;
           dry = dry;
           balanced = balanced;
@@ -156,15 +142,18 @@ module _ {n e : ℕ} {links fh fn th tn plus minus marks amounts p m a : List �
         inside : Inside s
         inside = given-inside given (c .net)
 
-        balanced : Balanced s v (amountsOf a′) p′ m′
-        balanced = given-balanced given (w .waved .flowed .keeps v (none-balanced links (empty-amounts f) h weighed))
+        alike : Alike s (copied n e ends) (amountsOf amounts′) (flowing a′)
+        alike = given-alike given o (y .at)
 
-        drains : Drains s v (amountsOf a′) (outside (markedSet marks′))
+        balanced : Balanced s v (amountsOf amounts′) p′ m′
+        balanced = alike-balanced alike (w .waved .flowed .keeps v (none-balanced ends none-yet h weighed))
+
+        drains : Drains s v (amountsOf amounts′) (outside (markedSet marks′))
         drains =
             least-drains (balanced .below)
-            (least-same inside (record { at = λ g l. flips g (rw (given .groups) l) }) (least-given given (w .done .least)))
+            (least-same inside (record { at = λ g l. flips g (rw (given .groups) l) }) (alike-least alike (w .done .least)))
 
-        dry : (g : ℕ) → g < s .n → In (outside (markedSet marks′)) g → credit s v (amountsOf a′) g ≤ debit s v (amountsOf a′) g
+        dry : (g : ℕ) → g < s .n → In (outside (markedSet marks′)) g → credit s v (amountsOf amounts′) g ≤ debit s v (amountsOf amounts′) g
         dry g l i =
             let b : g < n = rw (given .groups) l in
             omega (arith, balanced .above g l, w .done .dry g b (flips g b ∙ i))
@@ -173,20 +162,20 @@ module _ {n e : ℕ} {links fh fn th tn plus minus marks amounts p m a : List �
         back true = refl
         back false = refl
 
-    pub heavy-law : Heavy n e links plus minus marks amounts p′ m′ marks′ a′
+    pub heavy-law : Heavy n e links plus minus marks amounts p′ m′ marks′ amounts′
     heavy-law =
         record {
           proves = proves;
-          small = amount-small (course-after (heavy-ask .course) (w .waved .flowed));
+          small = λ k l. rw (y .at k l) (amount-small (course-after (heavy-ask .course) (w .waved .flowed)) k l);
           bits = λ g l. rw (x .at g l) (bit (eqb (getD t g 0) 0));
           plus-rest = λ g l. w .waved .flowed .ex-rest g l ∙ h .plus-rest g l;
           minus-rest = λ g l. w .waved .flowed .la-rest g l ∙ h .minus-rest g l;
           marks-rest = λ g l. x .rest g l ∙ w .waved .rest g l;
-          amounts-rest = λ i l. w .waved .flowed .amounts-rest i l ∙ f .rest i l;
+          amounts-rest = y .rest;
           plus-long = w .waved .flowed .ex-long ∙ h .plus-long;
           minus-long = w .waved .flowed .la-long ∙ h .minus-long;
           marks-long = x .long ∙ w .waved .long;
-          amounts-long = w .waved .flowed .amounts-long ∙ f .long;
+          amounts-long = y .long;
         }
       where
         bit : (b : Bool) → only b 1 ≤ 1

@@ -3,6 +3,8 @@ pub mod SumLaws
 pub mod LinkLaws
 -- Chains, and walking along one.
 pub mod ChainLaws
+-- The working copy of the links and amounts.
+pub mod CopyLaws
 -- The set that drains.
 pub mod JoinLaws
 pub mod GrowLaws
@@ -12,6 +14,7 @@ pub mod BoundLaws
 pub mod SendLaws
 pub mod SafeLaws
 pub mod FlowLaws
+pub mod ApartLaws
 pub mod WaveLaws
 pub mod TideLaws
 pub mod HalfLaws

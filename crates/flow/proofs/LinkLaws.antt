@@ -5,11 +5,8 @@ use mathlib.Core.List.{List}
 use native.Mathlib.Omega.{arith}
 use Rattle.survey.specs.Limits.{entryBytes}
 use Rattle.survey.specs.Survey.{Survey, Link}
-use Rattle.survey.specs.Sets.{Set}
 use Rattle.survey.specs.Words.{word, linkAt, lent, standsAt, surveyOf}
-use Rattle.survey.specs.Balance.{Amounts}
 use Rattle.survey.proofs.Reaching.{Inside}
-use Rattle.survey.proofs.Draining.{Obeys}
 use Rattle.survey.proofs.GivenSurvey.{given-n, given-e, given-link}
 use Rattle.flow.specs.Links.{endOf, Given, bare}
 
@@ -61,18 +58,3 @@ module _ {s : Survey} {n e : ℕ} {l : List ℕ} (v : Given s n e l) where
   inside-ends i k h =
       let b : k < s .e = rw (v .count) at h in
       (rw (v .groups, ← given-from k h) (i .from k b), rw (v .groups, ← given-to k h) (i .to k b))
-
-  module _ {x : Amounts} {T : Set} where
-    pub bare-obeys : Obeys (bare n e l) x T → Obeys s x T
-    bare-obeys o =
-        record {
-          forth = λ k h m. let b = given-below h in rw (given-to k b) (o .forth k b (rw (given-from k b) at m));
-          back = λ k h p m. let b = given-below h in rw (given-from k b) (o .back k b p (rw (given-to k b) at m));
-        }
-
-    pub obeys-bare : Obeys s x T → Obeys (bare n e l) x T
-    obeys-bare o =
-        record {
-          forth = λ k b m. rw (given-to k b) at (o .forth k (rw (v .count) at b) (rw (given-from k b) m));
-          back = λ k b p m. rw (given-from k b) at (o .back k (rw (v .count) at b) p (rw (given-to k b) m));
-        }

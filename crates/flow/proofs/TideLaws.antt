@@ -10,14 +10,15 @@ use borrow.Author.Tests.{eqb-true, eqb-false, ltb-true, ltb-false}
 use Rattle.survey.specs.Survey.{Survey}
 use Rattle.survey.specs.Sets.{Set, Same, outside}
 use Rattle.survey.specs.Balance.{Amounts}
-use Rattle.survey.specs.Words.{amountsOf, markedSet}
+use Rattle.survey.specs.Words.{markedSet}
 use Rattle.survey.proofs.Reaching.{Inside}
-use Rattle.flow.specs.Links.{bare}
+use Rattle.flow.specs.Copies.{copied, flowing}
 use Rattle.flow.specs.Drains.{Growable, Begun, Grown, Least}
-use Rattle.flow.specs.Waves.{unmarked, Pourable, Still, Poured, WavesAsk, Wavable, Dry, Waved, WavedOnce}
+use Rattle.flow.specs.Waves.{unmarked, Remarked, Apartable, SetApart, Pourable, Still, Poured, WavesAsk, Wavable, Dry, Waved, WavedOnce}
 use Rattle.flow.proofs.JoinLaws.{placed-most}
 use Rattle.flow.proofs.DrainLaws.{grown-least}
 use Rattle.flow.proofs.SafeLaws.{net-inside}
+use Rattle.flow.proofs.ApartLaws.{apart-coming, apart-remarked, apart-ahead, apart-began}
 use Rattle.flow.proofs.FlowLaws.{flow-none, flow-on, course-after, lack-no-excess}
 
 -- The least set is one as far as the survey's groups go.
@@ -33,6 +34,10 @@ least-same i q d =
       least = λ U o h. record { has = λ g l m. d .least U o h .has g l (q .at g l ∙ m) };
     }
 
+-- one change of marks after the other
+remarked-on : {n : ℕ} {t t′ t″ : List ℕ} → Remarked n t t′ → Remarked n t′ t″ → Remarked n t t″
+remarked-on x y = record { same = λ g. y .same g ∙ x .same g; rest = λ g h. y .rest g h ∙ x .rest g h; long = y .long ∙ x .long }
+
 -- a mark that is 0 or 1 is 1 where it isn't 0
 bit : {u : ℕ} → u ≤ 1 → eqb u 1 ≡ not (eqb u 0)
 bit {u} h = go (eqb u 1) refl
@@ -44,8 +49,8 @@ bit {u} h = go (eqb u 1) refl
         let none : u ≡ 0 = omega arith in
         rw none
 
-module _ {n e c : ℕ} {links fh fn th tn amounts ex la t₀ order₀ by₀ t₁ order₁ : List ℕ} (p : Wavable n e links fh fn th tn amounts ex la t₀ order₀ by₀) (b : Begun n la t₀ order₀ t₁ order₁ c) where
-  pub wave-growable : Growable n e links amounts fh fn th tn t₁ order₁ by₀ c
+module _ {n e c : ℕ} {ends fh fn th tn amounts ex la t₀ order₀ by₀ t₁ order₁ : List ℕ} (p : Wavable n e ends fh fn th tn amounts ex la t₀ order₀ by₀) (b : Begun n la t₀ order₀ t₁ order₁ c) where
+  pub wave-growable : Growable n e ends amounts fh fn th tn t₁ order₁ by₀ c
   wave-growable =
       record {
         net = p .ask .course .net;
@@ -61,12 +66,21 @@ module _ {n e c : ℕ} {links fh fn th tn amounts ex la t₀ order₀ by₀ t₁
         placed = b .placed;
       }
 
-  module _ {t₂ order₂ by₂ : List ℕ} {c′ : ℕ} (w : Grown (bare n e links) (amountsOf amounts) t₁ order₁ by₀ c t₂ order₂ by₂ c′) where
+  module _ {t₂ order₂ by₂ : List ℕ} {c′ : ℕ} (w : Grown (copied n e ends) (flowing amounts) t₁ order₁ by₀ c t₂ order₂ by₂ c′) where
     starts : (j : ℕ) → j < c → 0 < getD la (getD order₂ j 0) 0
     starts j h = rw (w .grew .order-same j h) (b .starts j h)
 
-    pub wave-pourable : Pourable n e links fh fn th tn amounts ex la t₂ order₂ by₂ c c′
-    wave-pourable =
+    pub wave-apartable : Apartable t₂ order₂ c
+    wave-apartable =
+        record {
+          few = omega (arith, placed-most (b .placed), p .ask .course .net .few-groups);
+          order-long = omega (arith, placed-most (b .placed), b .order-long, w .grew .order-long, p .order-long);
+          group = λ i h. omega (arith, w .grew .placed .group i (omega (arith, w .grew .more)), p .ask .course .net .few-groups);
+          within = λ i h. omega (arith, w .grew .placed .group i (omega (arith, w .grew .more)), b .t-long, w .grew .t-long, p .ask .t-long);
+        }
+
+    pub wave-pourable : {t : List ℕ} → SetApart t₂ order₂ c t → Pourable n e ends fh fn th tn amounts ex la t order₂ by₂ c c′
+    wave-pourable a =
         record {
           course = p .ask .course;
           forth = p .ask .forth;
@@ -77,21 +91,25 @@ module _ {n e c : ℕ} {links fh fn th tn amounts ex la t₀ order₀ by₀ t₁
           once = w .grew .placed .once;
           starts = starts;
           hops = w .grew .hops;
-          marked = w .grew .placed .marked;
-          ahead = record { at = w .grew .placed .cover };
-          t-long = omega (arith, b .t-long, w .grew .t-long, p .ask .t-long);
+          began = apart-began (w .grew .placed) (w .grew .more) a la starts;
+          marked = apart-coming (w .grew .placed) (w .grew .more) a;
+          ahead = apart-ahead (w .grew .placed) (w .grew .more) a;
+          t-long = omega (arith, a .long, b .t-long, w .grew .t-long, p .ask .t-long);
           order-long = omega (arith, b .order-long, w .grew .order-long, p .order-long);
           by-long = omega (arith, w .grew .by-long, p .by-long);
         }
 
-    module _ {amounts′ ex′ la′ t₃ : List ℕ} {r : ℕ} (v : Poured n e links amounts ex la t₂ order₂ c c′ amounts′ ex′ la′ t₃ r) where
-      drains : (g : ℕ) → g < n → markedSet t₂ g ≡ outside (unmarked t₃) g
-      drains g l = rw (v .remarked .same g) (bit (w .grew .placed .bits g l))
+    module _ {amounts′ ex′ la′ t t₃ : List ℕ} {r : ℕ} (a : SetApart t₂ order₂ c t) (v : Poured n e ends amounts ex la t order₂ c c′ amounts′ ex′ la′ t₃ r) where
+      remarked : Remarked n t₂ t₃
+      remarked = remarked-on (apart-remarked (w .grew .placed) (w .grew .more) a) (v .remarked)
 
-      dry : Still amounts ex la order₂ c c′ amounts′ ex′ la′ → Dry n e links amounts ex la t₃
+      drains : (g : ℕ) → g < n → markedSet t₂ g ≡ outside (unmarked t₃) g
+      drains g l = rw (remarked .same g) (bit (w .grew .placed .bits g l))
+
+      dry : Still amounts ex la order₂ c c′ amounts′ ex′ la′ → Dry n e ends amounts ex la t₃
       dry s =
           record {
-            least = least-same (net-inside (p .ask .course .net)) (record { at = drains }) (grown-least links b w);
+            least = least-same (net-inside (p .ask .course .net)) (record { at = drains }) (grown-least ends b w);
             dry = λ g l m. none g l (eqb-true (getD t₂ g 0) 1 (drains g l ∙ m));
           }
         where
@@ -102,14 +120,14 @@ module _ {n e c : ℕ} {links fh fn th tn amounts ex la t₀ order₀ by₀ t₁
               go j k true q = lack-no-excess (p .ask .course) (getD order₂ j 0) (w .grew .placed .group j k) (starts j (ltb-true j c q))
               go j k false q = s .dry j (ltb-false j c q) k
 
-      pub wave-once : WavedOnce n e links amounts ex la t₀ order₀ by₀ amounts′ ex′ la′ t₃ order₂ by₂ r
+      pub wave-once : WavedOnce n e ends amounts ex la t₀ order₀ by₀ amounts′ ex′ la′ t₃ order₂ by₂ r
       wave-once =
           record {
             waved =
                 record {
                   flowed = v .flowed;
-                  rest = λ g h. v .remarked .rest g h ∙ w .grew .rest g h ∙ b .rest g h;
-                  long = v .remarked .long ∙ w .grew .t-long ∙ b .t-long;
+                  rest = λ g h. remarked .rest g h ∙ w .grew .rest g h ∙ b .rest g h;
+                  long = remarked .long ∙ w .grew .t-long ∙ b .t-long;
                 };
             order-long = w .grew .order-long ∙ b .order-long;
             by-long = w .grew .by-long;
@@ -119,16 +137,16 @@ module _ {n e c : ℕ} {links fh fn th tn amounts ex la t₀ order₀ by₀ t₁
 
 -- ---- wave after wave
 
-pub waved-none : {n e : ℕ} {links amounts ex la t : List ℕ} → Waved n e links amounts ex la t amounts ex la t
+pub waved-none : {n e : ℕ} {ends amounts ex la t : List ℕ} → Waved n e ends amounts ex la t amounts ex la t
 waved-none = record { flowed = flow-none; rest = λ g h. refl; long = refl }
 
 pub waved-on :
-    {n e : ℕ} {links amounts ex la t amounts′ ex′ la′ t′ amounts″ ex″ la″ t″ : List ℕ} → Waved n e links amounts ex la t amounts′ ex′ la′ t′
-    → Waved n e links amounts′ ex′ la′ t′ amounts″ ex″ la″ t″ → Waved n e links amounts ex la t amounts″ ex″ la″ t″
+    {n e : ℕ} {ends amounts ex la t amounts′ ex′ la′ t′ amounts″ ex″ la″ t″ : List ℕ} → Waved n e ends amounts ex la t amounts′ ex′ la′ t′
+    → Waved n e ends amounts′ ex′ la′ t′ amounts″ ex″ la″ t″ → Waved n e ends amounts ex la t amounts″ ex″ la″ t″
 waved-on a b = record { flowed = flow-on (a .flowed) (b .flowed); rest = λ g h. b .rest g h ∙ a .rest g h; long = b .long ∙ a .long }
 
 pub ask-after :
-    {n e : ℕ} {links fh fn th tn amounts ex la t amounts′ ex′ la′ t′ : List ℕ} → WavesAsk n e links fh fn th tn amounts ex la t → Waved n e links amounts ex la t amounts′ ex′ la′ t′
-    → WavesAsk n e links fh fn th tn amounts′ ex′ la′ t′
+    {n e : ℕ} {ends fh fn th tn amounts ex la t amounts′ ex′ la′ t′ : List ℕ} → WavesAsk n e ends fh fn th tn amounts ex la t → Waved n e ends amounts ex la t amounts′ ex′ la′ t′
+    → WavesAsk n e ends fh fn th tn amounts′ ex′ la′ t′
 ask-after p w =
     record { course = course-after (p .course) (w .flowed); forth = p .forth; back = p .back; t-long = omega (arith, w .long, p .t-long) }

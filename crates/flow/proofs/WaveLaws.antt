@@ -2,17 +2,17 @@
 use Prim.Native.Nat.{ℕ, _+_, _≤_, _<_}
 use native.Mathlib.Omega.{arith}
 use mathlib.Core.Path.{_≡_, refl, sym, ap, _∙_}
-use mathlib.Core.Logic.{inl, inr}
 use mathlib.Core.Bool.{Bool, true, false}
 use mathlib.Core.List.{List}
 use lib.ListN.{length, getD, set, length-set}
 use lib.Seq.{getD-set-same, getD-set-other}
 use lib.Dec.{eqb}
-use borrow.Author.Tests.{eqb-true, eqb-false}
-use Rattle.survey.specs.Words.{amountsOf}
-use Rattle.flow.specs.Links.{bare}
+use borrow.Author.Tests.{eqb-true, eqb-false, ne-eqb}
+use Rattle.survey.proofs.SumOrder.{sum-lt}
+use Rattle.flow.specs.Copies.{copied, flowing}
 use Rattle.flow.specs.Drains.{Way, pays, gives-back, Hop}
-use Rattle.flow.specs.Waves.{Flowed, lacks, unmarked, Remarked, Ahead, Passed, Rises, Turned, rests, sent, Turnable, Pourable, Still, Poured}
+use Rattle.flow.specs.Waves.{Flowed, lacks, unmarked, Remarked, Coming, Ahead, Passed, fallen, full, onward, Rises, Turned, rests, sent, Turnable, Pourable, Still, Poured}
+use Rattle.flow.proofs.JoinLaws.{set-by}
 use Rattle.flow.proofs.FlowLaws.{flow-none, flow-on, course-after, lacks-fall, lack-no-excess, turned-flowed, turned-one}
 
 -- ---- the marks of the groups that are passed
@@ -20,7 +20,7 @@ use Rattle.flow.proofs.FlowLaws.{flow-none, flow-on, course-after, lack
 pub remarked-none : {n : ℕ} {t : List ℕ} → Remarked n t t
 remarked-none = record { same = λ g. refl; rest = λ g h. refl; long = refl }
 
-pub passed-remarked : {n : ℕ} {t₀ : List ℕ} (t : List ℕ) (g : ℕ) → g < n → n ≤ length t → getD t g 0 ≡ 1 → Remarked n t₀ t → Remarked n t₀ (set t g 2)
+pub passed-remarked : {n : ℕ} {t₀ : List ℕ} (t : List ℕ) (g : ℕ) → g < n → n ≤ length t → Coming t g → Remarked n t₀ t → Remarked n t₀ (set t g 2)
 passed-remarked {n} {t₀} t g below room mark r =
     record {
       same = λ h. at h (eqb h g) refl;
@@ -29,18 +29,18 @@ passed-remarked {n} {t₀} t g below room mark r =
     }
   where
     at : (h : ℕ) (b : Bool) → eqb h g ≡ b → unmarked (set t g 2) h ≡ unmarked t₀ h
-    at h true q = rw (eqb-true h g q, getD-set-same t g 2 0 (omega arith)) (rw mark at (r .same g))
+    at h true q = rw (eqb-true h g q, getD-set-same t g 2 0 (omega arith)) (sym (ne-eqb (getD t g 0) 0 (λ z. omega arith)) ∙ r .same g)
     at h false q = rw (getD-set-other t g h 2 0 (eqb-false h g q)) (r .same h)
 
 pub passed-ahead : {n : ℕ} (t order : List ℕ) (i : ℕ) → getD order i 0 < n → n ≤ length t → Ahead n t order (i + 1) → Ahead n (set t (getD order i 0) 2) order i
 passed-ahead {n} t order i below room a = record { at = λ h l m. go h l m (eqb h (getD order i 0)) refl }
   where
-    go : (h : ℕ) → h < n → getD (set t (getD order i 0) 2) h 0 ≡ 1 → (b : Bool) → eqb h (getD order i 0) ≡ b → (j : ℕ) × (j < i) × (getD order j 0 ≡ h)
+    go : (h : ℕ) → h < n → Coming (set t (getD order i 0) 2) h → (b : Bool) → eqb h (getD order i 0) ≡ b → (j : ℕ) × (j < i) × (getD order j 0 ≡ h)
     go h l m true q =
         let two : getD (set t (getD order i 0) 2) h 0 ≡ 2 = rw (eqb-true h (getD order i 0) q) (getD-set-same t (getD order i 0) 2 0 (omega arith)) in
         absurd (omega arith)
     go h l m false q =
-        let f = a .at h l (sym (getD-set-other t (getD order i 0) h 2 0 (eqb-false h (getD order i 0) q)) ∙ m) in
+        let f = a .at h l (rw (getD-set-other t (getD order i 0) h 2 0 (eqb-false h (getD order i 0) q)) at m) in
         let other : f .0 ≡ i → ⊥ = λ z. eqb-false h (getD order i 0) q (sym (f .2) ∙ ap (λ j. getD order j 0) z) in
         (f .0, omega (arith, f .1), f .2)
 
@@ -52,18 +52,19 @@ pub data Went (n : ℕ) (amounts₀ ex₀ la₀ amounts ex la order : List ℕ) 
   fell : 0 < r → lacks n la < lacks n la₀ → Went n amounts₀ ex₀ la₀ amounts ex la order count i r
   level : 0 < r → ((h : ℕ) → getD la h 0 ≡ getD la₀ h 0) → (j : ℕ) → j < i → 0 < getD ex (getD order j 0) 0 → Went n amounts₀ ex₀ la₀ amounts ex la order count i r
 
-pub record Pouring (n e : ℕ) (links amounts₀ ex₀ la₀ t₀ order by : List ℕ) (started count : ℕ) (amounts ex la t : List ℕ) (r i : ℕ) : Type 0 where
+pub record Pouring (n e : ℕ) (ends amounts₀ ex₀ la₀ t₀ order by : List ℕ) (started count : ℕ) (amounts ex la t : List ℕ) (r i : ℕ) : Type 0 where
   pub from : started ≤ i
   pub within : r + i ≤ count
-  pub flowed : Flowed n e links amounts₀ ex₀ la₀ amounts ex la
-  pub hops : (j : ℕ) → started ≤ j → j < i → Hop (bare n e links) (amountsOf amounts) order by j
+  pub flowed : Flowed n e ends amounts₀ ex₀ la₀ amounts ex la
+  pub hops : (j : ℕ) → started ≤ j → j < i → Hop (copied n e ends) (flowing amounts) order by j
   pub remarked : Remarked n t₀ t
-  pub marked : (j : ℕ) → j < i → getD t (getD order j 0) 0 ≡ 1
+  pub began : (h : ℕ) → h < n → getD t h 0 ≡ 3 → 0 < getD la₀ h 0
+  pub marked : (j : ℕ) → j < i → Coming t (getD order j 0)
   pub ahead : Ahead n t order i
   pub went : Went n amounts₀ ex₀ la₀ amounts ex la order count i r
 
-module _ {n e started count : ℕ} {links fh fn th tn amounts₀ ex₀ la₀ t₀ order by : List ℕ} (p : Pourable n e links fh fn th tn amounts₀ ex₀ la₀ t₀ order by started count) where
-  pub pour-begins : Pouring n e links amounts₀ ex₀ la₀ t₀ order by started count amounts₀ ex₀ la₀ t₀ 0 count
+module _ {n e started count : ℕ} {ends fh fn th tn amounts₀ ex₀ la₀ t₀ order by : List ℕ} (p : Pourable n e ends fh fn th tn amounts₀ ex₀ la₀ t₀ order by started count) where
+  pub pour-begins : Pouring n e ends amounts₀ ex₀ la₀ t₀ order by started count amounts₀ ex₀ la₀ t₀ 0 count
   pour-begins =
       record {
         from = p .more;
@@ -71,27 +72,33 @@ module _ {n e started count : ℕ} {links fh fn th tn amounts₀ ex₀ la₀ t�
         flowed = flow-none;
         hops = p .hops;
         remarked = remarked-none;
+        began = p .began;
         marked = p .marked;
         ahead = p .ahead;
         went = idle refl refl refl refl (λ j a b. absurd (omega arith));
       }
 
-  module _ {amounts ex la t : List ℕ} {r m i : ℕ} (w : Pouring n e links amounts₀ ex₀ la₀ t₀ order by started count amounts ex la t r m) (at : m ≡ i + 1) (on : started ≤ i) where
+  module _ {amounts ex la t : List ℕ} {r m i : ℕ} (w : Pouring n e ends amounts₀ ex₀ la₀ t₀ order by started count amounts ex la t r m) (at : m ≡ i + 1) (on : started ≤ i) where
     within : i < count
     within = omega (arith, w .within)
 
-    hop : Hop (bare n e links) (amountsOf amounts) order by i
+    hop : Hop (copied n e ends) (flowing amounts) order by i
     hop = w .hops i on (omega arith)
 
     room : n ≤ length t
     room = omega (arith, w .remarked .long, p .t-long)
 
     -- who stands before place i is not passed yet
-    marked-after : (j : ℕ) → j < i → getD (set t (getD order i 0) 2) (getD order j 0) 0 ≡ 1
-    marked-after j b = getD-set-other t (getD order i 0) (getD order j 0) 2 0 (p .once j i b within) ∙ w .marked j (omega arith)
+    marked-after : (j : ℕ) → j < i → Coming (set t (getD order i 0) 2) (getD order j 0)
+    marked-after j b = rw (getD-set-other t (getD order i 0) (getD order j 0) 2 0 (p .once j i b within)) (w .marked j (omega arith))
+
+    -- nobody else begins it
+    began-after : (h : ℕ) → h < n → getD (set t (getD order i 0) 2) h 0 ≡ 3 → 0 < getD la₀ h 0
+    began-after =
+        set-by t (getD order i 0) 2 (λ h v. h < n → v ≡ 3 → 0 < getD la₀ h 0) (omega (arith, p .group i within, room)) (λ l z. absurd (omega arith)) (λ j d. w .began j)
 
     -- the group at place i is passed, and one before it stands at the other end of its link
-    pub pour-turnable : Turnable n e (getD order i 0) (getD by i 0) links fh fn th tn amounts ex la (set t (getD order i 0) 2)
+    pub pour-turnable : Turnable n e (getD order i 0) (getD by i 0) ends fh fn th tn amounts ex la (set t (getD order i 0) 2)
     pour-turnable =
         record {
           course = course-after (p .course) (w .flowed);
@@ -107,13 +114,13 @@ module _ {n e started count : ℕ} {links fh fn th tn amounts₀ ex₀ la₀ t�
 
     -- what has not sent yet can still send: an amount falls only where the link's own from sends
     hops-after :
-        (amounts′ : List ℕ) → Rises (getD order i 0) links amounts amounts′
-        → (j : ℕ) → started ≤ j → j < i → Hop (bare n e links) (amountsOf amounts′) order by j
+        (amounts′ : List ℕ) → Rises (getD order i 0) ends amounts amounts′
+        → (j : ℕ) → started ≤ j → j < i → Hop (copied n e ends) (flowing amounts′) order by j
     hops-after amounts′ up j a b =
         let h = w .hops j a (omega arith) in
         record { link = h .link; earlier = h .earlier; before = h .before; way = stays (h .way) }
       where
-        stays : {q : ℕ} → Way (bare n e links) (amountsOf amounts) (getD by j 0) (getD order j 0) q → Way (bare n e links) (amountsOf amounts′) (getD by j 0) (getD order j 0) q
+        stays : {q : ℕ} → Way (copied n e ends) (flowing amounts) (getD by j 0) (getD order j 0) q → Way (copied n e ends) (flowing amounts′) (getD by j 0) (getD order j 0) q
         stays (pays to from) = pays to from
         stays (gives-back from to has) =
             gives-back from to (omega (arith, up (getD by j 0) (λ z. p .once j i b within (sym from ∙ z))))
@@ -121,7 +128,7 @@ module _ {n e started count : ℕ} {links fh fn th tn amounts₀ ex₀ la₀ t�
     ahead : Ahead n (set t (getD order i 0) 2) order i
     ahead = passed-ahead t order i (p .group i within) room (rw at at (w .ahead))
 
-    went-after : {amounts′ ex′ la′ : List ℕ} {r′ : ℕ} → Turned n e (getD order i 0) links amounts ex la (set t (getD order i 0) 2) amounts′ ex′ la′ r′ → Went n amounts₀ ex₀ la₀ amounts′ ex′ la′ order count i (r + r′)
+    went-after : {amounts′ ex′ la′ : List ℕ} {r′ : ℕ} → Turned n e (getD order i 0) ends amounts ex la (set t (getD order i 0) 2) amounts′ ex′ la′ r′ → Went n amounts₀ ex₀ la₀ amounts′ ex′ la′ order count i (r + r′)
     went-after {r′ = r′} (rests z) = go (w .went)
       where
         go : Went n amounts₀ ex₀ la₀ amounts ex la order count m r → Went n amounts₀ ex₀ la₀ amounts ex la order count i (r + 0)
@@ -140,19 +147,25 @@ module _ {n e started count : ℕ} {links fh fn th tn amounts₀ ex₀ la₀ t�
       where
         -- who is still to come stands before place i
         come :
-            0 < r + 1 → ((h : ℕ) → getD la′ h 0 ≡ getD la₀ h 0) → (h : ℕ) × (h < n) × (getD (set t (getD order i 0) 2) h 0 ≡ 1) × (0 < getD ex′ h 0)
+            0 < r + 1 → ((h : ℕ) → getD la′ h 0 ≡ getD la₀ h 0) → (h : ℕ) → h < n → Coming (set t (getD order i 0) 2) h → 0 < getD ex′ h 0
             → Went n amounts₀ ex₀ la₀ amounts′ ex′ la′ order count i (r + 1)
-        come pos same x = let f = ahead .at (x .0) (x .1) (x .2) in level pos same (f .0) (f .1) (rw (f .2) (x .3))
+        come pos same h l m x = let f = ahead .at h l m in level pos same (f .0) (f .1) (rw (f .2) x)
+
+        -- one that began had a lack
+        gone : (h : ℕ) → h < n → getD (set t (getD order i 0) 2) h 0 ≡ 3 → getD la′ h 0 ≡ 0 → lacks n la′ < lacks n la₀
+        gone h l m z =
+            sum-lt n (λ j. getD la′ j 0) (λ j. getD la₀ j 0) (λ j b. flow-on (w .flowed) f .falls j) h l (omega (arith, began-after h l m))
 
         go : Went n amounts₀ ex₀ la₀ amounts ex la order count m r → Passed n la ex′ la′ (set t (getD order i 0) 2) → Went n amounts₀ ex₀ la₀ amounts′ ex′ la′ order count i (r + 1)
-        go v (inl lower) = fell (omega arith) (omega (arith, lacks-fall (w .flowed)))
-        go (idle a b c d dry) (inr x) = come (omega arith) (λ h. x .0 h ∙ ap (λ l. getD l h 0) d) (x .1)
-        go (fell a b) (inr x) = fell (omega arith) (omega (arith, lacks-fall f))
-        go (level a b j c d) (inr x) = come (omega arith) (λ h. x .0 h ∙ b h) (x .1)
+        go v (fallen lower) = fell (omega arith) (omega (arith, lacks-fall (w .flowed)))
+        go v (full h l m z) = fell (omega arith) (gone h l m z)
+        go (idle a b c d dry) (onward same h l m x) = come (omega arith) (λ j. same j ∙ ap (λ y. getD y j 0) d) h l m x
+        go (fell a b) (onward same h l m x) = fell (omega arith) (omega (arith, lacks-fall f))
+        go (level a b j c d) (onward same h l m x) = come (omega arith) (λ u. same u ∙ b u) h l m x
 
     pub pour-on :
-        {amounts′ ex′ la′ : List ℕ} {r′ : ℕ} → Turned n e (getD order i 0) links amounts ex la (set t (getD order i 0) 2) amounts′ ex′ la′ r′
-        → Pouring n e links amounts₀ ex₀ la₀ t₀ order by started count amounts′ ex′ la′ (set t (getD order i 0) 2) (r + r′) i
+        {amounts′ ex′ la′ : List ℕ} {r′ : ℕ} → Turned n e (getD order i 0) ends amounts ex la (set t (getD order i 0) 2) amounts′ ex′ la′ r′
+        → Pouring n e ends amounts₀ ex₀ la₀ t₀ order by started count amounts′ ex′ la′ (set t (getD order i 0) 2) (r + r′) i
     pour-on x =
         record {
           from = on;
@@ -160,20 +173,21 @@ module _ {n e started count : ℕ} {links fh fn th tn amounts₀ ex₀ la₀ t�
           flowed = flow-on (w .flowed) (turned-flowed x);
           hops = hops x;
           remarked = passed-remarked t (getD order i 0) (p .group i within) room (w .marked i (omega arith)) (w .remarked);
+          began = began-after;
           marked = marked-after;
           ahead = ahead;
           went = went-after x;
         }
       where
         hops :
-            {amounts′ ex′ la′ : List ℕ} {r′ : ℕ} → Turned n e (getD order i 0) links amounts ex la (set t (getD order i 0) 2) amounts′ ex′ la′ r′ → (j : ℕ) → started ≤ j → j < i
-            → Hop (bare n e links) (amountsOf amounts′) order by j
+            {amounts′ ex′ la′ : List ℕ} {r′ : ℕ} → Turned n e (getD order i 0) ends amounts ex la (set t (getD order i 0) 2) amounts′ ex′ la′ r′ → (j : ℕ) → started ≤ j → j < i
+            → Hop (copied n e ends) (flowing amounts′) order by j
         hops (rests z) j a b = w .hops j a (omega arith)
         hops {amounts′} (sent f up passed) j a b = hops-after amounts′ up j a b
 
   pub pour-done :
-      {amounts ex la t : List ℕ} {r i : ℕ} → i ≤ started → Pouring n e links amounts₀ ex₀ la₀ t₀ order by started count amounts ex la t r i
-      → Poured n e links amounts₀ ex₀ la₀ t₀ order started count amounts ex la t r
+      {amounts ex la t : List ℕ} {r i : ℕ} → i ≤ started → Pouring n e ends amounts₀ ex₀ la₀ t₀ order by started count amounts ex la t r i
+      → Poured n e ends amounts₀ ex₀ la₀ t₀ order started count amounts ex la t r
   pour-done {amounts} {ex} {la} {t} {r} {i} d w =
       record {
         flowed = w .flowed;

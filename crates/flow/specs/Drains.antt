@@ -9,7 +9,8 @@ use Rattle.survey.specs.Sets.{Set, In, Contains, sum}
 use Rattle.survey.specs.Balance.{Amounts}
 use Rattle.survey.specs.Words.{markedSet, amountsOf}
 use Rattle.survey.proofs.Draining.{Obeys}
-use Rattle.flow.specs.Links.{endOf, Given, bare, LinksWithin}
+use Rattle.flow.specs.Links.{endOf, Given, LinksWithin}
+use Rattle.flow.specs.Copies.{endIn, copied, flowing, Copy}
 use Rattle.flow.specs.Chains.{Chains}
 
 -- ---- what the calls ask
@@ -78,23 +79,23 @@ pub record Joinable (g k : ℕ) (t order by : List ℕ) (c : ℕ) : Type 0 where
   pub room : getD t g 0 ≡ 0 → (c < length order) × (c < length by)
 
 -- g has joined, and the links by one of its ends are to be seen to
-pub record Growing (end n e g : ℕ) (links head next t order by : List ℕ) (c : ℕ) : Type 0 where
-  pub net : Net n e links
-  pub index : Index n e (endOf links end) head next
+pub record Growing (end n e g : ℕ) (ends head next t order by : List ℕ) (c : ℕ) : Type 0 where
+  pub net : Copy n e ends
+  pub index : Index n e (endIn ends end) head next
   pub room : Room n t order by
   pub placed : Placed n t order c
   pub below : g < n
   pub joined : getD t g 0 ≡ 1
 
-pub record GrowingBack (n e g : ℕ) (links amounts head next t order by : List ℕ) (c : ℕ) : Type 0 where
-  pub growing : Growing 4 n e g links head next t order by c
-  pub amounts-long : LinksWithin e amounts
+pub record GrowingBack (n e g : ℕ) (ends amounts head next t order by : List ℕ) (c : ℕ) : Type 0 where
+  pub growing : Growing 1 n e g ends head next t order by c
+  pub amounts-long : e ≤ length amounts
 
-pub record Growable (n e : ℕ) (links amounts from-head from-next to-head to-next t order by : List ℕ) (c : ℕ) : Type 0 where
-  pub net : Net n e links
-  pub amounts-long : LinksWithin e amounts
-  pub forth : Index n e (endOf links 0) from-head from-next
-  pub back : Index n e (endOf links 4) to-head to-next
+pub record Growable (n e : ℕ) (ends amounts from-head from-next to-head to-next t order by : List ℕ) (c : ℕ) : Type 0 where
+  pub net : Copy n e ends
+  pub amounts-long : e ≤ length amounts
+  pub forth : Index n e (endIn ends 0) from-head from-next
+  pub back : Index n e (endIn ends 1) to-head to-next
   pub room : Room n t order by
   pub placed : Placed n t order c
 
@@ -138,14 +139,14 @@ pub record Grew (s : Survey) (x : Amounts) (t order by : List ℕ) (c : ℕ) (t�
   pub by-long : length by′ ≡ length by
 
 -- each link from g has been seen to: whoever it goes to has joined
-pub record GrewForth (n e g : ℕ) (links t order by : List ℕ) (c : ℕ) (t′ order′ by′ : List ℕ) (c′ : ℕ) : Type 0 where
-  pub grew : (x : Amounts) → Grew (bare n e links) x t order by c t′ order′ by′ c′
-  pub seen : (k : ℕ) → k < e → endOf links 0 k ≡ g → getD t′ (endOf links 4 k) 0 ≡ 1
+pub record GrewForth (n e g : ℕ) (ends t order by : List ℕ) (c : ℕ) (t′ order′ by′ : List ℕ) (c′ : ℕ) : Type 0 where
+  pub grew : (x : Amounts) → Grew (copied n e ends) x t order by c t′ order′ by′ c′
+  pub seen : (k : ℕ) → k < e → endIn ends 0 k ≡ g → getD t′ (endIn ends 1 k) 0 ≡ 1
 
 -- each link to g with an amount has been seen to: whoever it comes from has joined
-pub record GrewBack (n e g : ℕ) (links amounts t order by : List ℕ) (c : ℕ) (t′ order′ by′ : List ℕ) (c′ : ℕ) : Type 0 where
-  pub grew : Grew (bare n e links) (amountsOf amounts) t order by c t′ order′ by′ c′
-  pub seen : (k : ℕ) → k < e → 0 < amountsOf amounts k → endOf links 4 k ≡ g → getD t′ (endOf links 0 k) 0 ≡ 1
+pub record GrewBack (n e g : ℕ) (ends amounts t order by : List ℕ) (c : ℕ) (t′ order′ by′ : List ℕ) (c′ : ℕ) : Type 0 where
+  pub grew : Grew (copied n e ends) (flowing amounts) t order by c t′ order′ by′ c′
+  pub seen : (k : ℕ) → k < e → 0 < flowing amounts k → endIn ends 1 k ≡ g → getD t′ (endIn ends 0 k) 0 ≡ 1
 
 -- growing until each link of each group that joined has been seen to
 pub record Grown (s : Survey) (x : Amounts) (t order by : List ℕ) (c : ℕ) (t′ order′ by′ : List ℕ) (c′ : ℕ) : Type 0 where

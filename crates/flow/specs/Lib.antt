@@ -1,5 +1,6 @@
 -- What the code of the waves promises, from the bottom up.
 pub mod Links
+pub mod Copies
 pub mod Chains
 pub mod Drains
 pub mod Sends

@@ -1,7 +1,11 @@
 // The set that drains.
+use crate::copies::copy_ends;
+use crate::copies::take_amounts;
 use crate::drains::begin;
 use crate::drains::grow;
+use crate::sizes::ENDS;
 use crate::sizes::GROUPS;
+use crate::sizes::LINKS;
 ghost use Rattle.flow.specs.Drains.{Drainable, Drained};
 
 // Marks the least set that holds every group with a lack and in which a group joins that could pay one in it: along each link from a group in
@@ -21,14 +25,18 @@ pub fn drained(
     requires { ⌜ Drainable n e (now links) (now amounts) (now lack) (now «from_head») (now «from_next») (now «to_head») (now «to_next») (now t) ⌝ }
     ensures { λ r. ⌜ Drained n e (now (links .entry)) (now (amounts .entry)) (now (lack .entry)) (now (t .entry)) (now (t .exit)) ⌝ }
 {
+    let mut ends = [0u8; ENDS];
+    copy_ends(e, links, &mut ends);
+    let mut x = [0u64; LINKS];
+    take_amounts(e, amounts, &mut x);
     let mut order = [0u16; GROUPS];
     let mut by = [0u16; GROUPS];
     let started = begin(n, lack, t, &mut order);
     grow(
         n,
         e,
-        links,
-        amounts,
+        &ends,
+        &x,
         from_head,
         from_next,
         to_head,

@@ -1,9 +1,7 @@
 // Growing the set that drains: it begins with the groups that have a lack, and a group joins where it could pay into it. The order in which
 // they join is the queue of the growing, breadth first, and with the link through which each joined it is the way back for a wave.
-use crate::ends::end_of;
-use entries::amount_at;
-ghost use Rattle.survey.specs.Words.{amountsOf};
-ghost use Rattle.flow.specs.Links.{bare};
+use crate::ends::end_in;
+ghost use Rattle.flow.specs.Copies.{copied, flowing};
 ghost use Rattle.flow.specs.Drains.{Beginnable, BeginRoom, Joinable, Growing, GrowingBack, Growable, Begun, Begins, Joins, JoinsBack, GrewForth, GrewBack, Grown};
 
 // Group g begins it where it has a lack: the next place of the order is then its own.
@@ -72,7 +70,7 @@ fn forth(
     n: usize,
     e: usize,
     g: usize,
-    links: &[u8],
+    ends: &[u8],
     head: &[u16],
     next: &[u16],
     t: &mut [u8],
@@ -80,13 +78,13 @@ fn forth(
     by: &mut [u16],
     started: usize,
 ) -> usize
-    requires { ⌜ Growing 0 n e g (now links) (now head) (now next) (now t) (now order) (now by) started ⌝ }
-    ensures { λ r. ⌜ GrewForth n e g (now (links .entry)) (now (t .entry)) (now (order .entry)) (now (by .entry)) started (now (t .exit)) (now (order .exit)) (now (by .exit)) r ⌝ }
+    requires { ⌜ Growing 0 n e g (now ends) (now head) (now next) (now t) (now order) (now by) started ⌝ }
+    ensures { λ r. ⌜ GrewForth n e g (now (ends .entry)) (now (t .entry)) (now (order .entry)) (now (by .entry)) started (now (t .exit)) (now (order .exit)) (now (by .exit)) r ⌝ }
 {
     let mut count = started;
     let mut k = head[g] as usize;
     while k < e {
-        let q = end_of(links, k, 4);
+        let q = end_in(ends, k, 1);
         count = join(q, k, t, order, by, count);
         k = next[k] as usize;
     }
@@ -98,8 +96,8 @@ fn back(
     n: usize,
     e: usize,
     g: usize,
-    links: &[u8],
-    amounts: &[u8],
+    ends: &[u8],
+    amounts: &[u64],
     head: &[u16],
     next: &[u16],
     t: &mut [u8],
@@ -107,14 +105,14 @@ fn back(
     by: &mut [u16],
     started: usize,
 ) -> usize
-    requires { ⌜ GrowingBack n e g (now links) (now amounts) (now head) (now next) (now t) (now order) (now by) started ⌝ }
-    ensures { λ r. ⌜ GrewBack n e g (now (links .entry)) (now (amounts .entry)) (now (t .entry)) (now (order .entry)) (now (by .entry)) started (now (t .exit)) (now (order .exit)) (now (by .exit)) r ⌝ }
+    requires { ⌜ GrowingBack n e g (now ends) (now amounts) (now head) (now next) (now t) (now order) (now by) started ⌝ }
+    ensures { λ r. ⌜ GrewBack n e g (now (ends .entry)) (now (amounts .entry)) (now (t .entry)) (now (order .entry)) (now (by .entry)) started (now (t .exit)) (now (order .exit)) (now (by .exit)) r ⌝ }
 {
     let mut count = started;
     let mut k = head[g] as usize;
     while k < e {
-        let amount = amount_at(amounts, 0, 0, k);
-        let p = end_of(links, k, 0);
+        let amount = amounts[k];
+        let p = end_in(ends, k, 0);
         count = join_back(amount, p, k, t, order, by, count);
         k = next[k] as usize;
     }
@@ -125,8 +123,8 @@ fn back(
 pub fn grow(
     n: usize,
     e: usize,
-    links: &[u8],
-    amounts: &[u8],
+    ends: &[u8],
+    amounts: &[u64],
     from_head: &[u16],
     from_next: &[u16],
     to_head: &[u16],
@@ -136,27 +134,15 @@ pub fn grow(
     by: &mut [u16],
     started: usize,
 ) -> usize
-    requires { ⌜ Growable n e (now links) (now amounts) (now «from_head») (now «from_next») (now «to_head») (now «to_next») (now t) (now order) (now by) started ⌝ }
-    ensures { λ r. ⌜ Grown (bare n e (now (links .entry))) (amountsOf (now (amounts .entry))) (now (t .entry)) (now (order .entry)) (now (by .entry)) started (now (t .exit)) (now (order .exit)) (now (by .exit)) r ⌝ }
+    requires { ⌜ Growable n e (now ends) (now amounts) (now «from_head») (now «from_next») (now «to_head») (now «to_next») (now t) (now order) (now by) started ⌝ }
+    ensures { λ r. ⌜ Grown (copied n e (now (ends .entry))) (flowing (now (amounts .entry))) (now (t .entry)) (now (order .entry)) (now (by .entry)) started (now (t .exit)) (now (order .exit)) (now (by .exit)) r ⌝ }
 {
     let mut count = started;
     let mut at = 0;
     while at < count {
         let g = order[at] as usize;
-        let more = forth(n, e, g, links, from_head, from_next, t, order, by, count);
-        count = back(
-            n,
-            e,
-            g,
-            links,
-            amounts,
-            to_head,
-            to_next,
-            t,
-            order,
-            by,
-            more,
-        );
+        let more = forth(n, e, g, ends, from_head, from_next, t, order, by, count);
+        count = back(n, e, g, ends, amounts, to_head, to_next, t, order, by, more);
         at += 1;
     }
     count

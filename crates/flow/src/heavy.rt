@@ -1,9 +1,12 @@
 // Weights in, the heaviest closed set out, with the amounts that prove it.
+use crate::copies::copy_ends;
+use crate::copies::put_amounts;
+use crate::sizes::ENDS;
+use crate::sizes::LINKS;
 use crate::waves::waves;
-ghost use Prim.Native.Nat.{_*_, _-_, _≤_};
+ghost use Prim.Native.Nat.{_-_, _≤_};
 ghost use mathlib.Core.Path.{_≡_};
 ghost use lib.ListN.{length};
-ghost use Rattle.flow.specs.Chains.{Filled};
 ghost use Rattle.flow.specs.Heavy.{Halved, flipped, Flipped, Weighable, Heavy};
 
 // What a is above b, and 0 where it isn't.
@@ -25,18 +28,6 @@ fn halve(n: usize, plus: &mut [u64], minus: &mut [u64])
         plus[g] = above(p, m);
         minus[g] = above(m, p);
         g += 1;
-    }
-}
-
-// No amount on the first links: n bytes.
-fn empty(amounts: &mut [u8], n: usize)
-    requires { ⌜ n ≤ length (now amounts) ⌝ }
-    ensures { λ r. ⌜ Filled (now (amounts .entry)) n 0 (now (amounts .exit)) ⌝ }
-{
-    let mut i = 0;
-    while i < n {
-        amounts[i] = 0;
-        i += 1;
     }
 }
 
@@ -75,20 +66,23 @@ pub fn heaviest(
     requires { ⌜ Weighable n e (now links) (now «from_head») (now «from_next») (now «to_head») (now «to_next») (now plus) (now minus) (now marks) (now amounts) ⌝ }
     ensures { λ r. ⌜ Heavy n e (now (links .entry)) (now (plus .entry)) (now (minus .entry)) (now (marks .entry)) (now (amounts .entry)) (now (plus .exit)) (now (minus .exit)) (now (marks .exit)) (now (amounts .exit)) ⌝ }
 {
+    let mut ends = [0u8; ENDS];
+    copy_ends(e, links, &mut ends);
     halve(n, plus, minus);
-    empty(amounts, 8 * e);
+    let mut x = [0u64; LINKS];
     waves(
         n,
         e,
-        links,
+        &ends,
         from_head,
         from_next,
         to_head,
         to_next,
-        amounts,
+        &mut x,
         plus,
         minus,
         marks,
     );
     flip_all(n, marks);
+    put_amounts(e, &x, amounts);
 }

@@ -1,5 +1,6 @@
 // Waves: the heaviest closed set, with the amounts that prove it, and the set that drains, which the checker asks for too.
 pub mod chains;
+mod copies;
 pub mod draining;
 mod drains;
 mod ends;

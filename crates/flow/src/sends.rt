@@ -1,13 +1,21 @@
 // One send through a link. By a link (p, q), q pays p: so q sends by raising the amount, and p sends by giving back some of it.
-use crate::ends::end_of;
-use entries::amount_at;
-use entries::put_amount;
-ghost use Rattle.flow.specs.Sends.{Receivable, Receives, Movable, Moves, Lower, Sendable, Sends};
+use crate::ends::end_in;
+ghost use Rattle.flow.specs.Sends.{Receivable, Receives, Movable, Moves, Lower, Takes, Sendable, Sends};
 
 fn lower(a: u64, b: u64) -> u64
     ensures { λ r. ⌜ Lower a b r ⌝ }
 {
     if a <= b { a } else { b }
+}
+
+// What a group takes of x: one that began the wave, which is marked 3, at most its lack. If it were overfilled, it would give back in the next wave.
+fn takes(mark: u8, lack: u64, x: u64) -> u64
+    ensures { λ r. ⌜ Takes mark lack x r ⌝ }
+{
+    if mark == 3 {
+        return lower(x, lack);
+    }
+    x
 }
 
 // Group p gets d: it loses lack first, and the rest is its excess.
@@ -31,7 +39,7 @@ fn shift(
     p: usize,
     d: u64,
     amount: u64,
-    amounts: &mut [u8],
+    amounts: &mut [u64],
     excess: &mut [u64],
     lack: &mut [u64],
 )
@@ -41,29 +49,32 @@ fn shift(
     let left = excess[g] - d;
     excess[g] = left;
     receive(p, d, excess, lack);
-    put_amount(amounts, k, amount);
+    amounts[k] = amount;
 }
 
-// Group g sends what link k takes: all of its excess, or, giving back, at most the amount.
+// Group g sends what the other end of link k takes: of its excess, or, giving back, of no more than the amount.
 pub fn send(
     k: usize,
     g: usize,
-    links: &[u8],
-    amounts: &mut [u8],
+    ends: &[u8],
+    amounts: &mut [u64],
     excess: &mut [u64],
     lack: &mut [u64],
+    t: &[u8],
 )
-    requires { ⌜ Sendable k g (now links) (now amounts) (now excess) (now lack) ⌝ }
-    ensures { λ r. ⌜ Sends k g (now (links .entry)) (now (amounts .entry)) (now (excess .entry)) (now (lack .entry)) (now (amounts .exit)) (now (excess .exit)) (now (lack .exit)) ⌝ }
+    requires { ⌜ Sendable k g (now ends) (now amounts) (now excess) (now lack) (now t) ⌝ }
+    ensures { λ r. ⌜ Sends k g (now (ends .entry)) (now (amounts .entry)) (now (excess .entry)) (now (lack .entry)) (now (t .entry)) (now (amounts .exit)) (now (excess .exit)) (now (lack .exit)) ⌝ }
 {
-    let amount = amount_at(amounts, 0, 0, k);
+    let amount = amounts[k];
     let x = excess[g];
-    let q = end_of(links, k, 4);
+    let q = end_in(ends, k, 1);
     if q == g {
-        let p = end_of(links, k, 0);
-        shift(k, g, p, x, amount + x, amounts, excess, lack);
+        let p = end_in(ends, k, 0);
+        let d = takes(t[p], lack[p], x);
+        shift(k, g, p, d, amount + d, amounts, excess, lack);
         return;
     }
-    let d = lower(x, amount);
+    let most = lower(x, amount);
+    let d = takes(t[q], lack[q], most);
     shift(k, g, q, d, amount - d, amounts, excess, lack);
 }

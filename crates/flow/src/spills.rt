@@ -1,8 +1,7 @@
 // What a group cannot send through the link through which it joined, it sends through its other links, to groups whose turn is still to come:
-// those that are marked 1. So a wave carries as much as it can, and fewer are needed.
-use crate::ends::end_of;
+// those that are marked 1 or 3. So a wave carries as much as it can, and fewer are needed.
+use crate::ends::end_in;
 use crate::sends::send;
-use entries::amount_at;
 ghost use mathlib.Core.Path.{_≡_};
 ghost use Rattle.flow.specs.Waves.{Offerable, Offered, leastFor, Spillable, Spilled};
 
@@ -12,22 +11,22 @@ fn offer(
     g: usize,
     q: usize,
     least: u64,
-    links: &[u8],
-    amounts: &mut [u8],
+    ends: &[u8],
+    amounts: &mut [u64],
     excess: &mut [u64],
     lack: &mut [u64],
     t: &[u8],
 )
-    requires { ⌜ Offerable k g q least (now links) (now amounts) (now excess) (now lack) (now t) ⌝ }
-    ensures { λ r. ⌜ Offered k g q least (now (links .entry)) (now (amounts .entry)) (now (excess .entry)) (now (lack .entry)) (now (t .entry)) (now (amounts .exit)) (now (excess .exit)) (now (lack .exit)) ⌝ }
+    requires { ⌜ Offerable k g q least (now ends) (now amounts) (now excess) (now lack) (now t) ⌝ }
+    ensures { λ r. ⌜ Offered k g q least (now (ends .entry)) (now (amounts .entry)) (now (excess .entry)) (now (lack .entry)) (now (t .entry)) (now (amounts .exit)) (now (excess .exit)) (now (lack .exit)) ⌝ }
 {
-    if t[q] != 1 {
+    if t[q] % 2 != 1 {
         return;
     }
-    if amount_at(amounts, 0, 0, k) < least {
+    if amounts[k] < least {
         return;
     }
-    send(k, g, links, amounts, excess, lack);
+    send(k, g, ends, amounts, excess, lack, t);
 }
 
 // Paying asks no amount of a link, giving back some.
@@ -37,23 +36,23 @@ fn least_for(end: usize) -> u64
     if end == 0 { 1 } else { 0 }
 }
 
-// Along the chain of g by one of its ends, until nothing is left: at 4 along the links to g, which it pays by; at 0 along those from g, by which
+// Along the chain of g by one of its ends, until nothing is left: at 1 along the links to g, which it pays by; at 0 along those from g, by which
 // it gives back.
 pub fn spill(
     n: usize,
     e: usize,
     end: usize,
     g: usize,
-    links: &[u8],
+    ends: &[u8],
     head: &[u16],
     next: &[u16],
-    amounts: &mut [u8],
+    amounts: &mut [u64],
     excess: &mut [u64],
     lack: &mut [u64],
     t: &[u8],
 )
-    requires { ⌜ Spillable n e end g (now links) (now head) (now next) (now amounts) (now excess) (now lack) (now t) ⌝ }
-    ensures { λ r. ⌜ Spilled n e g (now (links .entry)) (now (amounts .entry)) (now (excess .entry)) (now (lack .entry)) (now (t .entry)) (now (amounts .exit)) (now (excess .exit)) (now (lack .exit)) ⌝ }
+    requires { ⌜ Spillable n e end g (now ends) (now head) (now next) (now amounts) (now excess) (now lack) (now t) ⌝ }
+    ensures { λ r. ⌜ Spilled n e g (now (ends .entry)) (now (amounts .entry)) (now (excess .entry)) (now (lack .entry)) (now (t .entry)) (now (amounts .exit)) (now (excess .exit)) (now (lack .exit)) ⌝ }
 {
     let least = least_for(end);
     let mut k = head[g] as usize;
@@ -61,8 +60,8 @@ pub fn spill(
         if excess[g] == 0 {
             return;
         }
-        let q = end_of(links, k, 4 - end);
-        offer(k, g, q, least, links, amounts, excess, lack, t);
+        let q = end_in(ends, k, 1 - end);
+        offer(k, g, q, least, ends, amounts, excess, lack, t);
         k = next[k] as usize;
     }
 }

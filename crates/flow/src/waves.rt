@@ -5,38 +5,51 @@ use crate::drains::grow;
 use crate::sends::send;
 use crate::sizes::GROUPS;
 use crate::spills::spill;
-ghost use Rattle.flow.specs.Waves.{Turnable, Turned, Pourable, Poured, Wavable, WavedOnce, WavesAsk, WavedAll};
+ghost use Rattle.flow.specs.Waves.{Apartable, SetApart, Turnable, Turned, Pourable, Poured, Wavable, WavedOnce, WavesAsk, WavedAll};
+
+// The groups that began the wave are marked 3: each of them takes at most its lack.
+fn set_apart(t: &mut [u8], order: &[u16], started: usize)
+    requires { ⌜ Apartable (now t) (now order) started ⌝ }
+    ensures { λ r. ⌜ SetApart (now (t .entry)) (now (order .entry)) started (now (t .exit)) ⌝ }
+{
+    let mut i = 0;
+    while i < started {
+        let g = order[i] as usize;
+        t[g] = 3;
+        i += 1;
+    }
+}
 
 // The turn of group g: it sends through link k, through which it joined, and what that doesn't take through its other links, giving back before
-// it pays. How many groups sent: 1 or 0.
+// it pays. How many groups had something to send: 1 or 0.
 fn turn(
     n: usize,
     e: usize,
     g: usize,
     k: usize,
-    links: &[u8],
+    ends: &[u8],
     from_head: &[u16],
     from_next: &[u16],
     to_head: &[u16],
     to_next: &[u16],
-    amounts: &mut [u8],
+    amounts: &mut [u64],
     excess: &mut [u64],
     lack: &mut [u64],
     t: &[u8],
 ) -> usize
-    requires { ⌜ Turnable n e g k (now links) (now «from_head») (now «from_next») (now «to_head») (now «to_next») (now amounts) (now excess) (now lack) (now t) ⌝ }
-    ensures { λ r. ⌜ Turned n e g (now (links .entry)) (now (amounts .entry)) (now (excess .entry)) (now (lack .entry)) (now (t .entry)) (now (amounts .exit)) (now (excess .exit)) (now (lack .exit)) r ⌝ }
+    requires { ⌜ Turnable n e g k (now ends) (now «from_head») (now «from_next») (now «to_head») (now «to_next») (now amounts) (now excess) (now lack) (now t) ⌝ }
+    ensures { λ r. ⌜ Turned n e g (now (ends .entry)) (now (amounts .entry)) (now (excess .entry)) (now (lack .entry)) (now (t .entry)) (now (amounts .exit)) (now (excess .exit)) (now (lack .exit)) r ⌝ }
 {
     if excess[g] == 0 {
         return 0;
     }
-    send(k, g, links, amounts, excess, lack);
+    send(k, g, ends, amounts, excess, lack, t);
     spill(
         n,
         e,
         0,
         g,
-        links,
+        ends,
         from_head,
         from_next,
         amounts,
@@ -44,33 +57,21 @@ fn turn(
         lack,
         t,
     );
-    spill(
-        n,
-        e,
-        4,
-        g,
-        links,
-        to_head,
-        to_next,
-        amounts,
-        excess,
-        lack,
-        t,
-    );
+    spill(n, e, 1, g, ends, to_head, to_next, amounts, excess, lack, t);
     1
 }
 
 // Back through the order, to the groups that began it: those have a lack and nothing to send. A group that is passed is marked 2, so that those
-// marked 1 are still to come. How many groups sent.
+// marked 1 or 3 are still to come. How many groups had something to send.
 fn pour(
     n: usize,
     e: usize,
-    links: &[u8],
+    ends: &[u8],
     from_head: &[u16],
     from_next: &[u16],
     to_head: &[u16],
     to_next: &[u16],
-    amounts: &mut [u8],
+    amounts: &mut [u64],
     excess: &mut [u64],
     lack: &mut [u64],
     t: &mut [u8],
@@ -79,8 +80,8 @@ fn pour(
     started: usize,
     count: usize,
 ) -> usize
-    requires { ⌜ Pourable n e (now links) (now «from_head») (now «from_next») (now «to_head») (now «to_next») (now amounts) (now excess) (now lack) (now t) (now order) (now by) started count ⌝ }
-    ensures { λ r. ⌜ Poured n e (now (links .entry)) (now (amounts .entry)) (now (excess .entry)) (now (lack .entry)) (now (t .entry)) (now (order .entry)) started count (now (amounts .exit)) (now (excess .exit)) (now (lack .exit)) (now (t .exit)) r ⌝ }
+    requires { ⌜ Pourable n e (now ends) (now «from_head») (now «from_next») (now «to_head») (now «to_next») (now amounts) (now excess) (now lack) (now t) (now order) (now by) started count ⌝ }
+    ensures { λ r. ⌜ Poured n e (now (ends .entry)) (now (amounts .entry)) (now (excess .entry)) (now (lack .entry)) (now (t .entry)) (now (order .entry)) started count (now (amounts .exit)) (now (excess .exit)) (now (lack .exit)) (now (t .exit)) r ⌝ }
 {
     let mut sent = 0;
     let mut i = count;
@@ -94,7 +95,7 @@ fn pour(
             e,
             g,
             k,
-            links,
+            ends,
             from_head,
             from_next,
             to_head,
@@ -108,30 +109,30 @@ fn pour(
     sent
 }
 
-// One wave. How many groups sent: where none did, the marks say which groups drain.
+// One wave. How many groups had something to send: where none had, the marks say which groups drain.
 fn wave(
     n: usize,
     e: usize,
-    links: &[u8],
+    ends: &[u8],
     from_head: &[u16],
     from_next: &[u16],
     to_head: &[u16],
     to_next: &[u16],
-    amounts: &mut [u8],
+    amounts: &mut [u64],
     excess: &mut [u64],
     lack: &mut [u64],
     t: &mut [u8],
     order: &mut [u16],
     by: &mut [u16],
 ) -> usize
-    requires { ⌜ Wavable n e (now links) (now «from_head») (now «from_next») (now «to_head») (now «to_next») (now amounts) (now excess) (now lack) (now t) (now order) (now by) ⌝ }
-    ensures { λ r. ⌜ WavedOnce n e (now (links .entry)) (now (amounts .entry)) (now (excess .entry)) (now (lack .entry)) (now (t .entry)) (now (order .entry)) (now (by .entry)) (now (amounts .exit)) (now (excess .exit)) (now (lack .exit)) (now (t .exit)) (now (order .exit)) (now (by .exit)) r ⌝ }
+    requires { ⌜ Wavable n e (now ends) (now «from_head») (now «from_next») (now «to_head») (now «to_next») (now amounts) (now excess) (now lack) (now t) (now order) (now by) ⌝ }
+    ensures { λ r. ⌜ WavedOnce n e (now (ends .entry)) (now (amounts .entry)) (now (excess .entry)) (now (lack .entry)) (now (t .entry)) (now (order .entry)) (now (by .entry)) (now (amounts .exit)) (now (excess .exit)) (now (lack .exit)) (now (t .exit)) (now (order .exit)) (now (by .exit)) r ⌝ }
 {
     let started = begin(n, lack, t, order);
     let count = grow(
         n,
         e,
-        links,
+        ends,
         amounts,
         from_head,
         from_next,
@@ -142,10 +143,11 @@ fn wave(
         by,
         started,
     );
+    set_apart(t, order, started);
     pour(
         n,
         e,
-        links,
+        ends,
         from_head,
         from_next,
         to_head,
@@ -165,18 +167,18 @@ fn wave(
 pub fn waves(
     n: usize,
     e: usize,
-    links: &[u8],
+    ends: &[u8],
     from_head: &[u16],
     from_next: &[u16],
     to_head: &[u16],
     to_next: &[u16],
-    amounts: &mut [u8],
+    amounts: &mut [u64],
     excess: &mut [u64],
     lack: &mut [u64],
     t: &mut [u8],
 )
-    requires { ⌜ WavesAsk n e (now links) (now «from_head») (now «from_next») (now «to_head») (now «to_next») (now amounts) (now excess) (now lack) (now t) ⌝ }
-    ensures { λ r. ⌜ WavedAll n e (now (links .entry)) (now (amounts .entry)) (now (excess .entry)) (now (lack .entry)) (now (t .entry)) (now (amounts .exit)) (now (excess .exit)) (now (lack .exit)) (now (t .exit)) ⌝ }
+    requires { ⌜ WavesAsk n e (now ends) (now «from_head») (now «from_next») (now «to_head») (now «to_next») (now amounts) (now excess) (now lack) (now t) ⌝ }
+    ensures { λ r. ⌜ WavedAll n e (now (ends .entry)) (now (amounts .entry)) (now (excess .entry)) (now (lack .entry)) (now (t .entry)) (now (amounts .exit)) (now (excess .exit)) (now (lack .exit)) (now (t .exit)) ⌝ }
 {
     let mut order = [0u16; GROUPS];
     let mut by = [0u16; GROUPS];
@@ -184,7 +186,7 @@ pub fn waves(
         let sent = wave(
             n,
             e,
-            links,
+            ends,
             from_head,
             from_next,
             to_head,

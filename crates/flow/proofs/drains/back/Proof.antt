@@ -1,15 +1,16 @@
--- `flow::drains::back` meets its contract. The invariant: the links to g before k are seen to. Assumes nothing.
+-- `flow::drains::back` meets its contract. The invariant: the ends to g before k are seen to. Assumes nothing.
 use Prim.Native.Nat.{_-_}
+use mathlib.Core.Path.{refl}
 use native.Mathlib.Omega.{arith}
 use Rattle.flow.proofs.GrowLaws.{WalkingBack, joinable, grew-room, back-begins, back-on, back-done}
 use Rattle.flow.proofs.drains.back.Statement.{statement}
 use Rattle.flow.proofs.drains.back.Tie as tie
 
 abbrev Inv-loop : tie.InvT-loop
-Inv-loop n e g links amounts head next t₀ order₀ by₀ started count₀ k₀ t order by count k = WalkingBack n e g links amounts t₀ order₀ by₀ started t order by count k
+Inv-loop n e g ends amounts head next t₀ order₀ by₀ started count₀ k₀ t order by count k = WalkingBack n e g ends amounts t₀ order₀ by₀ started t order by count k
 
 abbrev μ-loop : tie.MeasureT-loop
-μ-loop n e g links amounts head next t₀ order₀ by₀ started count₀ k₀ t order by count k = e - k
+μ-loop n e g ends amounts head next t₀ order₀ by₀ started count₀ k₀ t order by count k = e - k
 
 mul-k : tie.Need-mul-k Inv-loop μ-loop
 mul-k c = omega (arith, c .before .before .before .before .before .before .before .pre .growing .net .few-groups, c .before .before .before .before .before .before .before .pre .growing .below)
@@ -23,16 +24,19 @@ cast-k c = omega (arith, c .before .before .before .before .before .before .befo
 loop-holds : tie.Need-loop-holds Inv-loop μ-loop
 loop-holds c = back-begins (c .before .before .before .before .before .before .before .before .pre .growing)
 
-amount-at-requires : tie.Need-amount-at-requires Inv-loop μ-loop
-amount-at-requires c κs = omega (arith, c .before .before .before .before .before .before .before .before .before .before .pre .amounts-long, c .loop-test .taken)
+mul-amount : tie.Need-mul-amount Inv-loop μ-loop
+mul-amount c = omega (arith, c .before .before .before .before .before .before .before .before .before .before .pre .growing .net .few-links, c .loop-test .taken)
 
-end-of-requires : tie.Need-end-of-requires Inv-loop μ-loop
-end-of-requires c κs = (omega arith, omega (arith, c .before .before .before .before .before .before .before .before .before .before .before .pre .growing .net .links-long, c .before .loop-test .taken))
+shared-slice-read-amount : tie.Need-shared-slice-read-amount Inv-loop μ-loop
+shared-slice-read-amount c = omega (arith, c .before .before .before .before .before .before .before .before .before .before .before .pre .amounts-long, c .before .loop-test .taken)
+
+end-in-requires : tie.Need-end-in-requires Inv-loop μ-loop
+end-in-requires c κs = (omega arith, omega (arith, c .before .before .before .before .before .before .before .before .before .before .before .pre .growing .net .ends-long, c .before .loop-test .taken))
 
 join-back-requires : tie.Need-join-back-requires Inv-loop μ-loop
 join-back-requires c κs =
     joinable (c .before .before .before .before .before .before .before .before .before .before .before .before .before .before .before .pre .growing .net) (grew-room (c .before .before .before .before .before .before .loop .inv .grew) (c .before .before .before .before .before .before .before .before .before .before .before .before .before .before .before .pre .growing .room)) (c .before .before .before .before .before .before .loop .inv .grew .placed)
-    (rw (c .before .before .before .end-of .ensures) (c .before .before .before .before .before .before .before .before .before .before .before .before .before .before .before .pre .growing .net .from (c .before .before .before .before .before .before .loop .k) (c .before .before .before .before .before .loop-test .taken))) (c .before .before .before .before .before .loop-test .taken)
+    (rw (c .before .before .before .end-in .ensures) (c .before .before .before .before .before .before .before .before .before .before .before .before .before .before .before .pre .growing .net .from (c .before .before .before .before .before .before .loop .k) (c .before .before .before .before .before .loop-test .taken))) (c .before .before .before .before .before .loop-test .taken)
 
 mul-k-2 : tie.Need-mul-k-2 Inv-loop μ-loop
 mul-k-2 c = omega (arith, c .before .before .before .before .before .before .before .before .before .before .before .before .before .before .before .before .before .before .before .before .before .before .pre .growing .net .few-links, c .before .before .before .before .before .before .before .before .before .before .before .before .loop-test .taken)
@@ -47,7 +51,7 @@ loop-less : tie.Need-loop-less Inv-loop μ-loop
 loop-less c = omega (arith, c .before .before .before .before .before .before .before .before .before .before .before .before .before .before .before .before .before .before .before .before .before .before .before .pre .growing .index .chains .nexts (c .before .before .before .before .before .before .before .before .before .before .before .before .before .before .loop .k) (c .before .before .before .before .before .before .before .before .before .before .before .before .before .loop-test .taken) .from, c .before .before .before .before .before .before .before .before .before .before .before .before .before .before .before .before .before .before .before .before .before .before .before .pre .growing .index .chains .nexts (c .before .before .before .before .before .before .before .before .before .before .before .before .before .before .loop .k) (c .before .before .before .before .before .before .before .before .before .before .before .before .before .loop-test .taken) .within, c .before .before .before .before .before .before .before .before .before .before .before .before .before .loop-test .taken)
 
 loop-again : tie.Need-loop-again Inv-loop μ-loop
-loop-again c = back-on (c .before .before .before .before .before .before .before .before .before .before .before .before .before .before .before .before .before .before .before .before .before .before .before .pre .growing) (c .before .before .before .before .before .before .before .before .before .before .before .before .before .before .loop .inv) (c .before .before .before .before .before .before .before .before .before .before .before .before .before .loop-test .taken) (c .before .before .before .before .before .before .before .before .before .before .before .before .amount-at .ensures) (c .before .before .before .before .before .before .before .before .before .before .before .end-of .ensures) (c .before .before .before .before .before .before .before .join-back .ensures)
+loop-again c = back-on (c .before .before .before .before .before .before .before .before .before .before .before .before .before .before .before .before .before .before .before .before .before .before .before .pre .growing) (c .before .before .before .before .before .before .before .before .before .before .before .before .before .before .loop .inv) (c .before .before .before .before .before .before .before .before .before .before .before .before .before .loop-test .taken) refl (c .before .before .before .before .before .before .before .before .before .before .before .end-in .ensures) (c .before .before .before .before .before .before .before .join-back .ensures)
 
 same-length : tie.Need-same-length Inv-loop μ-loop
 same-length c = c .before .loop .inv .grew .t-long
@@ -71,8 +75,9 @@ back-spec =
     shared-slice-read-k
     cast-k
     loop-holds
-    amount-at-requires
-    end-of-requires
+    mul-amount
+    shared-slice-read-amount
+    end-in-requires
     join-back-requires
     mul-k-2
     shared-slice-read-k-2

@@ -1,4 +1,4 @@
--- `flow::drains::forth` meets its contract. The invariant: the links from g before k are seen to. Assumes nothing.
+-- `flow::drains::forth` meets its contract. The invariant: the ends from g before k are seen to. Assumes nothing.
 use Prim.Native.Nat.{_-_}
 use native.Mathlib.Omega.{arith}
 use Rattle.flow.proofs.GrowLaws.{WalkingForth, joinable, grew-room, forth-begins, forth-on, forth-done}
@@ -6,10 +6,10 @@ use Rattle.flow.proofs.drains.forth.Statement.{statement}
 use Rattle.flow.proofs.drains.forth.Tie as tie
 
 abbrev Inv-loop : tie.InvT-loop
-Inv-loop n e g links head next t₀ order₀ by₀ started count₀ k₀ t order by count k = WalkingForth n e g links t₀ order₀ by₀ started t order by count k
+Inv-loop n e g ends head next t₀ order₀ by₀ started count₀ k₀ t order by count k = WalkingForth n e g ends t₀ order₀ by₀ started t order by count k
 
 abbrev μ-loop : tie.MeasureT-loop
-μ-loop n e g links head next t₀ order₀ by₀ started count₀ k₀ t order by count k = e - k
+μ-loop n e g ends head next t₀ order₀ by₀ started count₀ k₀ t order by count k = e - k
 
 mul-k : tie.Need-mul-k Inv-loop μ-loop
 mul-k c = omega (arith, c .before .before .before .before .before .before .pre .net .few-groups, c .before .before .before .before .before .before .pre .below)
@@ -23,13 +23,13 @@ cast-k c = omega (arith, c .before .before .before .before .before .before .befo
 loop-holds : tie.Need-loop-holds Inv-loop μ-loop
 loop-holds c = forth-begins (c .before .before .before .before .before .before .before .pre)
 
-end-of-requires : tie.Need-end-of-requires Inv-loop μ-loop
-end-of-requires c κs = (omega arith, omega (arith, c .before .before .before .before .before .before .before .before .before .pre .net .links-long, c .loop-test .taken))
+end-in-requires : tie.Need-end-in-requires Inv-loop μ-loop
+end-in-requires c κs = (omega arith, omega (arith, c .before .before .before .before .before .before .before .before .before .pre .net .ends-long, c .loop-test .taken))
 
 join-requires : tie.Need-join-requires Inv-loop μ-loop
 join-requires c κs =
     joinable (c .before .before .before .before .before .before .before .before .before .before .before .before .before .pre .net) (grew-room (c .before .before .before .before .before .loop .inv .grew (λ i. 0)) (c .before .before .before .before .before .before .before .before .before .before .before .before .before .pre .room)) (c .before .before .before .before .before .loop .inv .grew (λ i. 0) .placed)
-    (rw (c .before .before .before .end-of .ensures) (c .before .before .before .before .before .before .before .before .before .before .before .before .before .pre .net .to (c .before .before .before .before .before .loop .k) (c .before .before .before .before .loop-test .taken))) (c .before .before .before .before .loop-test .taken)
+    (rw (c .before .before .before .end-in .ensures) (c .before .before .before .before .before .before .before .before .before .before .before .before .before .pre .net .to (c .before .before .before .before .before .loop .k) (c .before .before .before .before .loop-test .taken))) (c .before .before .before .before .loop-test .taken)
 
 mul-k-2 : tie.Need-mul-k-2 Inv-loop μ-loop
 mul-k-2 c = omega (arith, c .before .before .before .before .before .before .before .before .before .before .before .before .before .before .before .before .before .before .before .before .pre .net .few-links, c .before .before .before .before .before .before .before .before .before .before .before .loop-test .taken)
@@ -44,7 +44,7 @@ loop-less : tie.Need-loop-less Inv-loop μ-loop
 loop-less c = omega (arith, c .before .before .before .before .before .before .before .before .before .before .before .before .before .before .before .before .before .before .before .before .before .pre .index .chains .nexts (c .before .before .before .before .before .before .before .before .before .before .before .before .before .loop .k) (c .before .before .before .before .before .before .before .before .before .before .before .before .loop-test .taken) .from, c .before .before .before .before .before .before .before .before .before .before .before .before .before .before .before .before .before .before .before .before .before .pre .index .chains .nexts (c .before .before .before .before .before .before .before .before .before .before .before .before .before .loop .k) (c .before .before .before .before .before .before .before .before .before .before .before .before .loop-test .taken) .within, c .before .before .before .before .before .before .before .before .before .before .before .before .loop-test .taken)
 
 loop-again : tie.Need-loop-again Inv-loop μ-loop
-loop-again c = forth-on (c .before .before .before .before .before .before .before .before .before .before .before .before .before .before .before .before .before .before .before .before .before .pre) (c .before .before .before .before .before .before .before .before .before .before .before .before .before .loop .inv) (c .before .before .before .before .before .before .before .before .before .before .before .before .loop-test .taken) (c .before .before .before .before .before .before .before .before .before .before .before .end-of .ensures) (c .before .before .before .before .before .before .before .join .ensures)
+loop-again c = forth-on (c .before .before .before .before .before .before .before .before .before .before .before .before .before .before .before .before .before .before .before .before .before .pre) (c .before .before .before .before .before .before .before .before .before .before .before .before .before .loop .inv) (c .before .before .before .before .before .before .before .before .before .before .before .before .loop-test .taken) (c .before .before .before .before .before .before .before .before .before .before .before .end-in .ensures) (c .before .before .before .before .before .before .before .join .ensures)
 
 same-length : tie.Need-same-length Inv-loop μ-loop
 same-length c = c .before .loop .inv .grew (λ i. 0) .t-long
@@ -68,7 +68,7 @@ forth-spec =
     shared-slice-read-k
     cast-k
     loop-holds
-    end-of-requires
+    end-in-requires
     join-requires
     mul-k-2
     shared-slice-read-k-2

@@ -1,8 +1,7 @@
 -- `flow::drains::grow` meets its contract. The invariant: the groups before the place `at` of the order are seen to. Assumes nothing.
 use Prim.Native.Nat.{_-_}
 use native.Mathlib.Omega.{arith}
-use Rattle.survey.specs.Words.{amountsOf}
-use Rattle.flow.specs.Links.{bare}
+use Rattle.flow.specs.Copies.{copied, flowing}
 use Rattle.flow.proofs.JoinLaws.{placed-most}
 use Rattle.flow.proofs.GrowLaws.{grew-room}
 use Rattle.flow.proofs.DrainLaws.{Growth, growth-begins, growing-forth, growing-back, growth-on, growth-done}
@@ -10,11 +9,11 @@ use Rattle.flow.proofs.drains.grow.Statement.{statement}
 use Rattle.flow.proofs.drains.grow.Tie as tie
 
 abbrev Inv-loop : tie.InvT-loop
-Inv-loop n e links amounts from-head from-next to-head to-next t₀ order₀ by₀ started count₀ at₀ t order by count at =
-    Growth (bare n e links) (amountsOf amounts) t₀ order₀ by₀ started t order by count at
+Inv-loop n e ends amounts from-head from-next to-head to-next t₀ order₀ by₀ started count₀ at₀ t order by count at =
+    Growth (copied n e ends) (flowing amounts) t₀ order₀ by₀ started t order by count at
 
 abbrev μ-loop : tie.MeasureT-loop
-μ-loop n e links amounts from-head from-next to-head to-next t₀ order₀ by₀ started count₀ at₀ t order by count at = n - at
+μ-loop n e ends amounts from-head from-next to-head to-next t₀ order₀ by₀ started count₀ at₀ t order by count at = n - at
 
 loop-holds : tie.Need-loop-holds Inv-loop μ-loop
 loop-holds c = growth-begins (c .before .before .before .before .before .before .before .before .before .pre .placed)

@@ -1,5 +1,5 @@
 -- `flow::sends::shift` meets its contract. Assumes nothing.
-use mathlib.Core.Path.{ap, _∙_}
+use mathlib.Core.Path.{refl, ap, _∙_}
 use lib.ListN.{length, length-set}
 use Rattle.flow.proofs.SendLaws.{receivable-after}
 use borrow.Author.Needs.{needs}
@@ -24,20 +24,23 @@ slice-write-excess c = search needs
 receive-requires : tie.Need-receive-requires
 receive-requires c κs = receivable-after _ (c .before .before .before .before .before .before .pre .apart) (c .before .before .before .before .before .before .pre .receivable)
 
-put-amount-requires : tie.Need-put-amount-requires
-put-amount-requires c κs = search needs
+mul-amounts : tie.Need-mul-amounts
+mul-amounts c = search needs
+
+slice-write-amounts : tie.Need-slice-write-amounts
+slice-write-amounts c = search needs
 
 same-length : tie.Need-same-length
 same-length c = search needs
 
 same-length-2 : tie.Need-same-length-2
-same-length-2 c = ap length (c .before .before .before .before .before .before .before .before .receive .ensures .more) ∙ simp length-set
+same-length-2 c = ap length (c .before .before .before .before .receive .ensures .more) ∙ simp length-set
 
 same-length-3 : tie.Need-same-length-3
 same-length-3 c = search needs
 
 returns : tie.Need-returns
-returns c = record { amount = c .before .before .put-amount .ensures; more = c .before .before .before .before .before .before .before .before .receive .ensures .more; less = c .before .before .before .before .before .before .before .before .receive .ensures .less }
+returns c = record { amount = refl; more = c .before .before .before .before .receive .ensures .more; less = c .before .before .before .before .receive .ensures .less }
 
 pub shift-spec : {M : Type 1} → statement M
 shift-spec =
@@ -49,7 +52,8 @@ shift-spec =
     mul-excess
     slice-write-excess
     receive-requires
-    put-amount-requires
+    mul-amounts
+    slice-write-amounts
     same-length
     same-length-2
     same-length-3

@@ -11,17 +11,20 @@ shared-slice-read-if1 c = search needs
 returns : tie.Need-returns
 returns c = kept
 
-amount-at-requires : tie.Need-amount-at-requires
-amount-at-requires c κs = search needs
+mul-if2 : tie.Need-mul-if2
+mul-if2 c = search needs
 
-same-length : tie.Need-same-length
-same-length c = search needs
+slice-read-if2 : tie.Need-slice-read-if2
+slice-read-if2 c = search needs
 
 returns-2 : tie.Need-returns-2
 returns-2 c = kept
 
 send-requires : tie.Need-send-requires
-send-requires c κs = c .before .before .before .before .before .before .before .before .before .before .before .before .before .pre .sendable (c .before .before .before .before .before .before .if1 .left) (omega (arith, c .before .before .before .if2 .left, c .before .before .before .before .amount-at .ensures))
+send-requires c κs = c .before .before .before .before .before .before .before .before .before .before .before .before .pre .sendable (c .before .before .before .before .before .if1 .left) (omega (arith, c .before .before .before .if2 .left))
+
+same-length : tie.Need-same-length
+same-length c = search needs
 
 same-length-2 : tie.Need-same-length-2
 same-length-2 c = search needs
@@ -29,11 +32,8 @@ same-length-2 c = search needs
 same-length-3 : tie.Need-same-length-3
 same-length-3 c = search needs
 
-same-length-4 : tie.Need-same-length-4
-same-length-4 c = search needs
-
 returns-3 : tie.Need-returns-3
-returns-3 c = took (c .before .before .before .before .before .before .before .before .before .before .before .before .before .if1 .left) (omega (arith, c .before .before .before .before .before .before .before .before .before .before .if2 .left, c .before .before .before .before .before .before .before .before .before .before .before .amount-at .ensures)) (c .before .before .before .before .before .before .send .ensures)
+returns-3 c = took (c .before .before .before .before .before .before .before .before .before .before .before .before .if1 .left) (omega (arith, c .before .before .before .before .before .before .before .before .before .before .if2 .left)) (c .before .before .before .before .before .before .send .ensures)
 
 pub offer-spec : {M : Type 1} → statement M
 offer-spec =
@@ -41,11 +41,11 @@ offer-spec =
     (tie.spec
     shared-slice-read-if1
     returns
-    amount-at-requires
-    same-length
+    mul-if2
+    slice-read-if2
     returns-2
     send-requires
+    same-length
     same-length-2
     same-length-3
-    same-length-4
     returns-3)

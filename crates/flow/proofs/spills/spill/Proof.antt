@@ -8,10 +8,10 @@ use Rattle.flow.proofs.spills.spill.Statement.{statement}
 use Rattle.flow.proofs.spills.spill.Tie as tie
 
 abbrev Inv-loop : tie.InvT-loop
-Inv-loop n e end g links head next amounts₀ excess₀ lack₀ t least k₀ amounts excess lack k = Spilling n e end g links amounts₀ excess₀ lack₀ t amounts excess lack k
+Inv-loop n e end g ends head next amounts₀ excess₀ lack₀ t least k₀ amounts excess lack k = Spilling n e end g ends amounts₀ excess₀ lack₀ t amounts excess lack k
 
 abbrev μ-loop : tie.MeasureT-loop
-μ-loop n e end g links head next amounts₀ excess₀ lack₀ t least k₀ amounts excess lack k = e - k
+μ-loop n e end g ends head next amounts₀ excess₀ lack₀ t least k₀ amounts excess lack k = e - k
 
 least-for-requires : tie.Need-least-for-requires Inv-loop μ-loop
 least-for-requires c κs = tt
@@ -46,14 +46,14 @@ same-length-3 c = (spilled-flowed (c .before .before .before .loop .inv .spilled
 returns : tie.Need-returns Inv-loop μ-loop
 returns c = c .before .before .before .loop .inv .spilled
 
-sub-end-of : tie.Need-sub-end-of Inv-loop μ-loop
-sub-end-of c = ⊎-elim (λ z. omega arith) (λ z. omega arith) (c .before .before .before .before .before .before .before .before .before .before .before .before .before .pre .which)
+sub-end-in : tie.Need-sub-end-in Inv-loop μ-loop
+sub-end-in c = ⊎-elim (λ z. omega arith) (λ z. omega arith) (c .before .before .before .before .before .before .before .before .before .before .before .before .before .pre .which)
 
-end-of-requires : tie.Need-end-of-requires Inv-loop μ-loop
-end-of-requires c κs = (omega arith, omega (arith, c .before .before .before .before .before .before .before .before .before .before .before .before .before .pre .course .net .links-long, c .before .before .loop-test .taken))
+end-in-requires : tie.Need-end-in-requires Inv-loop μ-loop
+end-in-requires c κs = (omega arith, omega (arith, c .before .before .before .before .before .before .before .before .before .before .before .before .before .pre .course .net .ends-long, c .before .before .loop-test .taken))
 
 offer-requires : tie.Need-offer-requires Inv-loop μ-loop
-offer-requires c κs = rw (c .before .before .before .before .before .before .before .before .before .least-for .ensures) (spill-offerable (c .before .before .before .before .before .before .before .before .before .before .before .before .before .before .before .before .before .pre) (c .before .before .before .before .before .before .before .loop .inv) (c .before .before .before .before .before .before .loop-test .taken) (c .before .before .before .end-of .ensures))
+offer-requires c κs = rw (c .before .before .before .before .before .before .before .before .before .least-for .ensures) (spill-offerable (c .before .before .before .before .before .before .before .before .before .before .before .before .before .before .before .before .before .pre) (c .before .before .before .before .before .before .before .loop .inv) (c .before .before .before .before .before .before .loop-test .taken) (c .before .before .before .end-in .ensures))
 
 mul-k-2 : tie.Need-mul-k-2 Inv-loop μ-loop
 mul-k-2 c = omega (arith, c .before .before .before .before .before .before .before .before .before .before .before .before .before .before .before .before .before .before .before .before .before .before .before .before .pre .course .net .few-links, c .before .before .before .before .before .before .before .before .before .before .before .before .before .loop-test .taken)
@@ -68,7 +68,7 @@ loop-less : tie.Need-loop-less Inv-loop μ-loop
 loop-less c = omega (arith, c .before .before .before .before .before .before .before .before .before .before .before .before .before .before .before .before .before .before .before .before .before .before .before .before .before .pre .index .chains .nexts (c .before .before .before .before .before .before .before .before .before .before .before .before .before .before .before .loop .k) (c .before .before .before .before .before .before .before .before .before .before .before .before .before .before .loop-test .taken) .from, c .before .before .before .before .before .before .before .before .before .before .before .before .before .before .before .before .before .before .before .before .before .before .before .before .before .pre .index .chains .nexts (c .before .before .before .before .before .before .before .before .before .before .before .before .before .before .before .loop .k) (c .before .before .before .before .before .before .before .before .before .before .before .before .before .before .loop-test .taken) .within, c .before .before .before .before .before .before .before .before .before .before .before .before .before .before .loop-test .taken)
 
 loop-again : tie.Need-loop-again Inv-loop μ-loop
-loop-again c = spill-on (c .before .before .before .before .before .before .before .before .before .before .before .before .before .before .before .before .before .before .before .before .before .before .before .before .before .pre) (c .before .before .before .before .before .before .before .before .before .before .before .before .before .before .before .loop .inv) (c .before .before .before .before .before .before .before .before .before .before .before .before .before .before .loop-test .taken) (c .before .before .before .before .before .before .before .before .before .before .before .end-of .ensures) (above-0 (c .before .before .before .before .before .before .before .before .before .before .before .before .if1 .left)) (rw (c .before .before .before .before .before .before .before .before .before .before .before .before .before .before .before .before .before .least-for .ensures) at (c .before .before .before .before .before .before .before .offer .ensures))
+loop-again c = spill-on (c .before .before .before .before .before .before .before .before .before .before .before .before .before .before .before .before .before .before .before .before .before .before .before .before .before .pre) (c .before .before .before .before .before .before .before .before .before .before .before .before .before .before .before .loop .inv) (c .before .before .before .before .before .before .before .before .before .before .before .before .before .before .loop-test .taken) (c .before .before .before .before .before .before .before .before .before .before .before .end-in .ensures) (above-0 (c .before .before .before .before .before .before .before .before .before .before .before .before .if1 .left)) (rw (c .before .before .before .before .before .before .before .before .before .before .before .before .before .before .before .before .before .least-for .ensures) at (c .before .before .before .before .before .before .before .offer .ensures))
 
 same-length-4 : tie.Need-same-length-4 Inv-loop μ-loop
 same-length-4 c = (spilled-flowed (c .before .loop .inv .spilled)) .amounts-long
@@ -99,8 +99,8 @@ spill-spec =
     same-length-2
     same-length-3
     returns
-    sub-end-of
-    end-of-requires
+    sub-end-in
+    end-in-requires
     offer-requires
     mul-k-2
     shared-slice-read-k-2

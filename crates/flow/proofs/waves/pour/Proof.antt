@@ -9,11 +9,11 @@ use Rattle.flow.proofs.waves.pour.Tie as tie
 -- `flow::waves::pour` meets its contract. The invariant: the groups from place i of the order on have had their turn. Assumes nothing.
 
 abbrev Inv-loop : tie.InvT-loop
-Inv-loop n e links from-head from-next to-head to-next amounts₀ excess₀ lack₀ t₀ order by started count sent₀ i₀ amounts excess lack t sent i =
-    Pouring n e links amounts₀ excess₀ lack₀ t₀ order by started count amounts excess lack t sent i
+Inv-loop n e ends from-head from-next to-head to-next amounts₀ excess₀ lack₀ t₀ order by started count sent₀ i₀ amounts excess lack t sent i =
+    Pouring n e ends amounts₀ excess₀ lack₀ t₀ order by started count amounts excess lack t sent i
 
 abbrev μ-loop : tie.MeasureT-loop
-μ-loop n e links from-head from-next to-head to-next amounts₀ excess₀ lack₀ t₀ order by started count sent₀ i₀ amounts excess lack t sent i = i
+μ-loop n e ends from-head from-next to-head to-next amounts₀ excess₀ lack₀ t₀ order by started count sent₀ i₀ amounts excess lack t sent i = i
 
 loop-holds : tie.Need-loop-holds Inv-loop μ-loop
 loop-holds c = pour-begins (c .before .before .before .before .before .before .before .before .before .before .before .pre)

@@ -19,7 +19,7 @@ returns : tie.Need-returns
 returns c = rests (c .if1 .taken)
 
 send-requires : tie.Need-send-requires
-send-requires c κs = sendable (c .before .before .before .before .before .before .before .before .before .before .before .before .before .before .pre .course) (c .before .before .before .before .before .before .before .before .before .before .before .before .before .before .pre .link) (c .before .before .before .before .before .before .before .before .before .before .before .before .before .before .pre .way)
+send-requires c κs = sendable (c .before .before .before .before .before .before .before .before .before .before .before .before .before .before .pre .course) (c .before .before .before .before .before .before .before .before .before .before .before .before .before .before .pre .link) (c .before .before .before .before .before .before .before .before .before .before .before .before .before .before .pre .t-long) (c .before .before .before .before .before .before .before .before .before .before .before .before .before .before .pre .way)
 
 spill-requires : tie.Need-spill-requires
 spill-requires c κs = record { course = turn-after (c .before .before .before .before .before .before .before .before .before .before .before .before .before .before .before .before .before .before .before .before .before .before .before .before .pre) (c .before .before .before .before .before .before .before .before .before .send .ensures); below = c .before .before .before .before .before .before .before .before .before .before .before .before .before .before .before .before .before .before .before .before .before .before .before .before .pre .below; which = inl refl; index = c .before .before .before .before .before .before .before .before .before .before .before .before .before .before .before .before .before .before .before .before .before .before .before .before .pre .forth; t-long = c .before .before .before .before .before .before .before .before .before .before .before .before .before .before .before .before .before .before .before .before .before .before .before .before .pre .t-long }

@@ -12,11 +12,11 @@ use Rattle.flow.proofs.waves.waves.Tie as tie
 -- `flow::waves::waves` meets its contract. The invariant: the state has flowed so far. The measure is the total lack. Assumes nothing.
 
 abbrev Inv-loop : tie.InvT-loop
-Inv-loop n e links from-head from-next to-head to-next amounts₀ excess₀ lack₀ t₀ order₀ by₀ amounts excess lack t order by =
-    Waved n e links amounts₀ excess₀ lack₀ t₀ amounts excess lack t × (length order ≡ groupLimit) × (length by ≡ groupLimit)
+Inv-loop n e ends from-head from-next to-head to-next amounts₀ excess₀ lack₀ t₀ order₀ by₀ amounts excess lack t order by =
+    Waved n e ends amounts₀ excess₀ lack₀ t₀ amounts excess lack t × (length order ≡ groupLimit) × (length by ≡ groupLimit)
 
 abbrev μ-loop : tie.MeasureT-loop
-μ-loop n e links from-head from-next to-head to-next amounts₀ excess₀ lack₀ t₀ order₀ by₀ amounts excess lack t order by = lacks n lack
+μ-loop n e ends from-head from-next to-head to-next amounts₀ excess₀ lack₀ t₀ order₀ by₀ amounts excess lack t order by = lacks n lack
 
 loop-holds : tie.Need-loop-holds Inv-loop μ-loop
 loop-holds c = (waved-none, refl, refl)
