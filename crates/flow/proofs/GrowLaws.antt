@@ -1,19 +1,19 @@
 -- Laws of the growing: one step after the other, a group that joins, and what is seen to in the end.
-use Prim.Native.Nat.{ℕ, _<_, _≤_}
+use Prim.Native.Nat.{ℕ, _+_, _-_, _<_, _≤_}
 use mathlib.Core.Path.{_≡_, refl, sym, _∙_}
 use mathlib.Core.List.{List}
 use mathlib.Core.Bool.{Bool, true, false}
 use native.Mathlib.Omega.{arith}
 use lib.ListN.{length, getD, set, length-set}
-use lib.Seq.{getD-set-same, getD-set-other}
-use lib.Dec.{ltb}
-use borrow.Author.Tests.{ltb-true, ltb-false}
+use lib.Seq.{getD-set-same, getD-set-other, set-getD}
+use lib.Dec.{eqb, ltb}
+use borrow.Author.Tests.{eqb-true, eqb-false, ltb-true, ltb-false}
 use Rattle.survey.specs.Survey.{Survey}
 use Rattle.survey.specs.Balance.{Amounts}
-use Rattle.flow.specs.Drains.{Placed, Room, Way, pays, gives-back, Hop, Joinable, Growing, Joins, joined, was, JoinsBack, gave, shut, Grew, GrewForth, GrewBack}
+use Rattle.flow.specs.Drains.{Placed, Room, Way, pays, gives-back, Hop, Joinable, Growing, Joins, MarkAfter, gave, shut, Grew, GrewForth, GrewBack}
 use Rattle.flow.specs.Copies.{endIn, copied, flowing, Copy}
 use Rattle.flow.proofs.ChainLaws.{Walking, walk-begins, walk-on}
-use Rattle.flow.proofs.JoinLaws.{placed-room, joined-placed, kept-order, new-order, kept-marks}
+use Rattle.flow.proofs.JoinLaws.{placed-most, joined-placed, free-placed, kept-order, new-order, kept-marks}
 
 module _ {s : Survey} {x : Amounts} where
   pub grew-none : {t order by : List ℕ} {c : ℕ} → Placed (s .n) t order c → Grew s x t order by c t order by c
@@ -64,49 +64,71 @@ module _ {s : Survey} {x : Amounts} where
       go i h k true e = let l = ltb-true i c′ e in hop-stays (b .order-same) (b .by-same) l (a .hops i h l)
       go i h k false e = b .hops i (ltb-false i c′ e) k
 
-  -- Group g joins through link k to p, which has joined.
+  -- Group g joins through link k to p, which has joined; or its mark stays.
   pub joins-grew :
-      {t order by t′ order′ by′ : List ℕ} {c c′ g k p : ℕ} → Room (s .n) t order by → Placed (s .n) t order c → g < s .n → k < s .e → p < s .n → getD t p 0 ≡ 1 → Way s x k g p
-      → Joins g k t order by c t′ order′ by′ c′ → Grew s x t order by c t′ order′ by′ c′
-  joins-grew room at below link group mark way (was d) = grew-none at
-  joins-grew {t} {order} {by} {c = c} {g = g} {k} {p} room at below link group mark way (joined z) =
-      record {
-        placed = joined-placed at below z here fits;
-        more = omega arith;
-        order-same = kept-order at below z here fits;
-        by-same = λ i h. getD-set-other by c i k 0 (λ q. omega arith);
-        hops = λ i h l. hop i (omega arith);
-        marks = kept-marks at below z here fits;
-        rest = λ h l. getD-set-other t g h 1 0 (λ q. omega arith);
-        t-long = length-set t g 1;
-        order-long = length-set order c g;
-        by-long = length-set by c k;
-      }
+      {t order by t′ order′ by′ : List ℕ} {c c′ g k m p : ℕ} → Room (s .n) t order by → Placed (s .n) t order c → g < s .n → k < s .e → p < s .n → getD t p 0 ≡ 1 → getD t g 0 ≤ m → m ≤ 1
+      → (getD t g 0 < m → Way s x k g p) → Joins g k m t order by c t′ order′ by′ c′ → Grew s x t order by c t′ order′ by′ c′
+  joins-grew {t} {order} {by} {c = c} {g = g} {k} {m} {p} room at below link group mark rises bit way j =
+      rw (j .marks, j .place, j .link, j .count) (go (eqb m (getD t g 0)) refl)
     where
       here : g < length t
       here = omega (arith, room .t-long)
 
       fits : c < length order
-      fits = omega (arith, placed-room at g below z, room .order-long)
+      fits = omega (arith, placed-most at, room .order-long)
 
       by-fits : c < length by
-      by-fits = omega (arith, placed-room at g below z, room .by-long)
+      by-fits = omega (arith, placed-most at, room .by-long)
 
-      hop : (i : ℕ) → i ≡ c → Hop s x (set order c g) (set by c k) i
-      hop i e =
+      hop : getD t g 0 ≡ 0 → Way s x k g p → (i : ℕ) → i ≡ c → Hop s x (set order c g) (set by c k) i
+      hop z w i e =
           let f = at .cover p group mark in
           rw e
           (record {
             link = rw (getD-set-same by c k 0 by-fits) link;
             earlier = f .0;
             before = f .1;
-            way = rw (getD-set-same by c k 0 by-fits, new-order at below z here fits, kept-order at below z here fits (f .0) (f .1), f .2) way;
+            way = rw (getD-set-same by c k 0 by-fits, new-order at below z here fits, kept-order at below z here fits (f .0) (f .1), f .2) w;
+          })
+
+      go : (b : Bool) → eqb m (getD t g 0) ≡ b → Grew s x t order by c (set t g m) (set order c g) (set by c k) (c + (m - getD t g 0))
+      go true q =
+          let stays : c + (getD t g 0 - getD t g 0) ≡ c = omega arith in
+          rw (eqb-true m (getD t g 0) q, set-getD t g 0, stays)
+          (record {
+            placed = free-placed g at;
+            more = omega arith;
+            order-same = λ i h. getD-set-other order c i g 0 (λ e. omega arith);
+            by-same = λ i h. getD-set-other by c i k 0 (λ e. omega arith);
+            hops = λ i h l. absurd (omega arith);
+            marks = λ h n. n;
+            rest = λ h l. refl;
+            t-long = refl;
+            order-long = length-set order c g;
+            by-long = length-set by c k;
+          })
+      go false q =
+          let other : m ≡ getD t g 0 → ⊥ = eqb-false m (getD t g 0) q in
+          let z : getD t g 0 ≡ 0 = omega arith in
+          let one : m ≡ 1 = omega arith in
+          let next : c + (1 - getD t g 0) ≡ c + 1 = omega arith in
+          rw (one, next)
+          (record {
+            placed = joined-placed at below z here fits;
+            more = omega arith;
+            order-same = kept-order at below z here fits;
+            by-same = λ i h. getD-set-other by c i k 0 (λ e. omega arith);
+            hops = λ i h l. hop z (way (omega arith)) i (omega arith);
+            marks = kept-marks at below z here fits;
+            rest = λ h l. getD-set-other t g h 1 0 (λ e. omega arith);
+            t-long = length-set t g 1;
+            order-long = length-set order c g;
+            by-long = length-set by c k;
           })
 
 -- and is marked then
-pub joins-marked : {n c c′ g k : ℕ} {t order by t′ order′ by′ : List ℕ} → Placed n t order c → g < n → g < length t → Joins g k t order by c t′ order′ by′ c′ → getD t′ g 0 ≡ 1
-joins-marked {g = g} {t = t} at below here (joined z) = getD-set-same t g 1 0 here
-joins-marked {g = g} at below here (was d) = omega (arith, at .bits g below)
+pub joins-marked : {c c′ g k m : ℕ} {t order by t′ order′ by′ : List ℕ} → g < length t → Joins g k m t order by c t′ order′ by′ c′ → getD t′ g 0 ≡ m
+joins-marked {g = g} {m = m} {t = t} here j = rw (j .marks) (getD-set-same t g m 0 here)
 
 -- ---- along a chain of g, which has joined: each step of the walk lets one more join
 
@@ -120,14 +142,32 @@ grew-room a r =
     }
 
 -- a group that may or may not have joined has room to
-pub joinable : {n e c g k : ℕ} {ends t order by : List ℕ} → Copy n e ends → Room n t order by → Placed n t order c → g < n → k < e → Joinable g k t order by c
-joinable {g = g} net room at below link =
+pub joinable :
+    {n e c g k m : ℕ} {ends t order by : List ℕ} → Copy n e ends → Room n t order by → Placed n t order c → g < n → k < e → getD t g 0 ≤ m → m ≤ 1 → Joinable g k m t order by c
+joinable net room at below link rises bit =
     record {
       few-groups = omega (arith, net .few-groups);
       few-links = omega (arith, net .few-links);
+      few-joined = omega (arith, placed-most at, net .few-groups);
       within = omega (arith, room .t-long);
-      room = λ z. let c = placed-room at g below z in (omega (arith, room .order-long), omega (arith, room .by-long));
+      order-room = omega (arith, placed-most at, room .order-long);
+      by-room = omega (arith, placed-most at, room .by-long);
+      rises = rises;
+      bit = bit;
     }
+
+-- the mark of one that could give back
+pub after-rises : {a was m : ℕ} → was ≤ 1 → MarkAfter a was m → (was ≤ m) × (m ≤ 1)
+after-rises h (gave o) = (h, omega arith)
+after-rises h (shut o) = (omega arith, h)
+
+after-gave : {a was m : ℕ} → was < m → MarkAfter a was m → 0 < a
+after-gave h (gave o) = o
+after-gave h (shut o) = absurd (omega arith)
+
+after-one : {a was m : ℕ} → 0 < a → MarkAfter a was m → m ≡ 1
+after-one h (gave o) = refl
+after-one h (shut o) = absurd (omega arith)
 
 -- the walk along the links from g, at link k
 pub record WalkingForth (n e g : ℕ) (ends t order by : List ℕ) (c : ℕ) (t′ order′ by′ : List ℕ) (c′ k : ℕ) : Type 0 where
@@ -145,7 +185,7 @@ module _ {n e g : ℕ} {ends head next t₀ order₀ by₀ : List ℕ} {c₀ : �
 
   pub forth-on :
       {t order by t′ order′ by′ : List ℕ} {c c′ k q : ℕ} → Growing 0 n e g ends head next t₀ order₀ by₀ c₀ → WalkingForth n e g ends t₀ order₀ by₀ c₀ t order by c k → k < e
-      → q ≡ endIn ends 1 k → Joins q k t order by c t′ order′ by′ c′ → WalkingForth n e g ends t₀ order₀ by₀ c₀ t′ order′ by′ c′ (getD next k 0)
+      → q ≡ endIn ends 1 k → Joins q k 1 t order by c t′ order′ by′ c′ → WalkingForth n e g ends t₀ order₀ by₀ c₀ t′ order′ by′ c′ (getD next k 0)
   forth-on {t} {order} {by} {t′} {order′} {by′} {c} {c′} {k} {q} p w l z j =
       record { grew = λ x. grew-on (w .grew x) (step x); walk = walk-on (w .walk) (step (λ i. 0) .marks) (λ u. rw z at here) l (p .index .chains .nexts k l) }
     where
@@ -156,37 +196,38 @@ module _ {n e g : ℕ} {ends head next t₀ order₀ by₀ : List ℕ} {c₀ : �
       below = rw z (p .net .to k l)
 
       here : getD t′ q 0 ≡ 1
-      here = joins-marked (old .placed) below (omega (arith, below, old .t-long, p .room .t-long)) j
+      here = joins-marked (omega (arith, below, old .t-long, p .room .t-long)) j
 
       step : (x : Amounts) → Grew (copied n e ends) x t order by c t′ order′ by′ c′
       step x =
-          joins-grew (grew-room old (p .room)) (old .placed) below l (p .below) (old .marks g (p .joined))
-          (pays (sym z) (w .walk .hit l)) j
+          joins-grew (grew-room old (p .room)) (old .placed) below l (p .below) (old .marks g (p .joined)) (old .placed .bits q below) (omega arith)
+          (λ h. pays (sym z) (w .walk .hit l)) j
 
   pub back-begins : {amounts : List ℕ} → Growing 1 n e g ends head next t₀ order₀ by₀ c₀ → WalkingBack n e g ends amounts t₀ order₀ by₀ c₀ t₀ order₀ by₀ c₀ (getD head g 0)
   back-begins p = record { grew = grew-none (p .placed); walk = walk-begins (p .index .chains .heads g (p .below)) }
 
   pub back-on :
-      {amounts t order by t′ order′ by′ : List ℕ} {a c c′ k q : ℕ} → Growing 1 n e g ends head next t₀ order₀ by₀ c₀ → WalkingBack n e g ends amounts t₀ order₀ by₀ c₀ t order by c k → k < e
-      → a ≡ flowing amounts k → q ≡ endIn ends 0 k → JoinsBack a q k t order by c t′ order′ by′ c′ → WalkingBack n e g ends amounts t₀ order₀ by₀ c₀ t′ order′ by′ c′ (getD next k 0)
-  back-on {amounts} {t} {order} {by} {t′} {order′} {by′} {c} {c′} {k} {q} p w l y z (gave o j) =
-      record { grew = grew-on (w .grew) step; walk = walk-on (w .walk) (step .marks) (λ u. rw z at here) l (p .index .chains .nexts k l) }
+      {amounts t order by t′ order′ by′ : List ℕ} {c c′ k m q : ℕ} → Growing 1 n e g ends head next t₀ order₀ by₀ c₀ → WalkingBack n e g ends amounts t₀ order₀ by₀ c₀ t order by c k → k < e
+      → q ≡ endIn ends 0 k → MarkAfter (flowing amounts k) (getD t q 0) m → Joins q k m t order by c t′ order′ by′ c′ → WalkingBack n e g ends amounts t₀ order₀ by₀ c₀ t′ order′ by′ c′ (getD next k 0)
+  back-on {amounts} {t} {order} {by} {t′} {order′} {by′} {c} {c′} {k} {m} {q} p w l z y j =
+      record {
+        grew = grew-on (w .grew) step;
+        walk = walk-on (w .walk) (step .marks) (λ u. rw z at (joins-marked here j ∙ after-one u y)) l (p .index .chains .nexts k l);
+      }
     where
       below : q < n
       below = rw z (p .net .from k l)
 
-      here : getD t′ q 0 ≡ 1
-      here = joins-marked (w .grew .placed) below (omega (arith, below, w .grew .t-long, p .room .t-long)) j
+      here : q < length t
+      here = omega (arith, below, w .grew .t-long, p .room .t-long)
+
+      rises : (getD t q 0 ≤ m) × (m ≤ 1)
+      rises = after-rises (w .grew .placed .bits q below) y
 
       step : Grew (copied n e ends) (flowing amounts) t order by c t′ order′ by′ c′
       step =
-          joins-grew (grew-room (w .grew) (p .room)) (w .grew .placed) below l (p .below) (w .grew .marks g (p .joined))
-          (gives-back (sym z) (w .walk .hit l) (rw y at o)) j
-  back-on {amounts} {k = k} p w l y z (shut o) =
-      record { grew = w .grew; walk = walk-on (w .walk) (λ h m. m) (λ u. absurd (none u (sym y ∙ o))) l (p .index .chains .nexts k l) }
-    where
-      none : {m : ℕ} → 0 < m → m ≡ 0 → ⊥
-      none u v = omega arith
+          joins-grew (grew-room (w .grew) (p .room)) (w .grew .placed) below l (p .below) (w .grew .marks g (p .joined)) (rises .0) (rises .1)
+          (λ h. gives-back (sym z) (w .walk .hit l) (after-gave h y)) j
 
 module _ {n e g : ℕ} {ends t₀ order₀ by₀ : List ℕ} {c₀ : ℕ} where
   -- each link is seen to

@@ -80,6 +80,21 @@ module _ {n c g : ℕ} {t order : List ℕ} (p : Placed n t order c) (l : g < n)
           sum-change n (λ h. 1 - getD t h 0) (λ h. 1 - getD (set t g 1) h 0) g 1 l
           (λ i k d. rw (getD-set-other t g i 1 0 d)) (rw (new-mark, z))
 
+-- what stands at the free place counts for nothing
+pub free-placed : {n c : ℕ} {t order : List ℕ} (g : ℕ) → Placed n t order c → Placed n t (set order c g) c
+free-placed {n} {c} {t} {order} g p =
+    record {
+      group = λ i h. rw (kept i h) (p .group i h);
+      marked = λ i h. rw (kept i h) (p .marked i h);
+      once = λ i j h k same. p .once i j h k (sym (kept i (omega arith)) ∙ same ∙ kept j k);
+      cover = λ h k m. let f = p .cover h k m in (f .0, f .1, kept (f .0) (f .1) ∙ f .2);
+      bits = p .bits;
+      count = p .count;
+    }
+  where
+    kept : (i : ℕ) → i < c → getD (set order c g) i 0 ≡ getD order i 0
+    kept i h = getD-set-other order c i g 0 (λ q. omega arith)
+
 -- ---- the groups that begin it, one after the other
 
 pub begun-none : (la t order : List ℕ) → Begun 0 la t order t order 0

@@ -29,11 +29,11 @@ pub record Index (n e : ℕ) (ends : ℕ → ℕ) (head next : List ℕ) : Type 
   pub head-long : n ≤ length head
   pub next-long : e ≤ length next
 
--- a place for each group in each list
+-- a place for each group in each list, and one more in those of the order: who has joined already is written after the last, where it counts for nothing
 pub record Room (n : ℕ) (t order by : List ℕ) : Type 0 where
   pub t-long : n ≤ length t
-  pub order-long : n ≤ length order
-  pub by-long : n ≤ length by
+  pub order-long : n < length order
+  pub by-long : n < length by
 
 -- ---- the order of joining
 
@@ -71,12 +71,16 @@ pub record BeginRoom (n : ℕ) (la t order : List ℕ) : Type 0 where
   pub t-long : n ≤ length t
   pub order-long : n ≤ length order
 
--- where g has not joined before, there is room for it
-pub record Joinable (g k : ℕ) (t order by : List ℕ) (c : ℕ) : Type 0 where
+-- the mark of g may rise to 1
+pub record Joinable (g k mark : ℕ) (t order by : List ℕ) (c : ℕ) : Type 0 where
   pub few-groups : g < groupLimit
   pub few-links : k < linkLimit
+  pub few-joined : c ≤ groupLimit
   pub within : g < length t
-  pub room : getD t g 0 ≡ 0 → (c < length order) × (c < length by)
+  pub order-room : c < length order
+  pub by-room : c < length by
+  pub rises : getD t g 0 ≤ mark
+  pub bit : mark ≤ 1
 
 -- g has joined, and the links by one of its ends are to be seen to
 pub record Growing (end n e g : ℕ) (ends head next t order by : List ℕ) (c : ℕ) : Type 0 where
@@ -115,15 +119,17 @@ pub data Begins (g a : ℕ) (t order : List ℕ) (c : ℕ) : List ℕ → List �
   lacking : 0 < a → Begins g a t order c (set t g 1) (set order c g) (c + 1)
   level : a ≡ 0 → Begins g a t order c (set t g 0) order c
 
--- group g joins through link k, if it has not joined before
-pub data Joins (g k : ℕ) (t order by : List ℕ) (c : ℕ) : List ℕ → List ℕ → List ℕ → ℕ → Type 0 where
-  joined : getD t g 0 ≡ 0 → Joins g k t order by c (set t g 1) (set order c g) (set by c k) (c + 1)
-  was : (getD t g 0 ≡ 0 → ⊥) → Joins g k t order by c t order by c
+-- Group g is marked, and stands at place c with link k: it has joined where its mark has risen, and else that place is still free.
+pub record Joins (g k mark : ℕ) (t order by : List ℕ) (c : ℕ) (t′ order′ by′ : List ℕ) (c′ : ℕ) : Type 0 where
+  pub marks : t′ ≡ set t g mark
+  pub place : order′ ≡ set order c g
+  pub link : by′ ≡ set by c k
+  pub count : c′ ≡ c + (mark - getD t g 0)
 
--- the same, if the link has an amount
-pub data JoinsBack (a g k : ℕ) (t order by : List ℕ) (c : ℕ) : List ℕ → List ℕ → List ℕ → ℕ → Type 0 where
-  gave : {t′ order′ by′ : List ℕ} {c′ : ℕ} → 0 < a → Joins g k t order by c t′ order′ by′ c′ → JoinsBack a g k t order by c t′ order′ by′ c′
-  shut : a ≡ 0 → JoinsBack a g k t order by c t order by c
+-- the mark of a group that could give back the amount a: 1, unless there is none
+pub data MarkAfter (a was : ℕ) : ℕ → Type 0 where
+  gave : 0 < a → MarkAfter a was 1
+  shut : a ≡ 0 → MarkAfter a was was
 
 -- the growing from c groups to c′: who had joined stands where it stood, and each newcomer hopped
 pub record Grew (s : Survey) (x : Amounts) (t order by : List ℕ) (c : ℕ) (t′ order′ by′ : List ℕ) (c′ : ℕ) : Type 0 where

@@ -160,8 +160,8 @@ pub record WavesAsk (n e : ℕ) (ends from-head from-next to-head to-next amount
 
 pub record Wavable (n e : ℕ) (ends from-head from-next to-head to-next amounts ex la t order by : List ℕ) : Type 0 where
   pub ask : WavesAsk n e ends from-head from-next to-head to-next amounts ex la t
-  pub order-long : n ≤ length order
-  pub by-long : n ≤ length by
+  pub order-long : n < length order
+  pub by-long : n < length by
 
 -- what the marks say is done: those that aren't 0 are the least set that drains, and it has no excess
 pub record Dry (n e : ℕ) (ends amounts ex la t : List ℕ) : Type 0 where

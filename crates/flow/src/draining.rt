@@ -4,8 +4,8 @@ use crate::copies::take_amounts;
 use crate::drains::begin;
 use crate::drains::grow;
 use crate::sizes::ENDS;
-use crate::sizes::GROUPS;
 use crate::sizes::LINKS;
+use crate::sizes::PLACES;
 ghost use Rattle.flow.specs.Drains.{Drainable, Drained};
 
 // Marks the least set that holds every group with a lack and in which a group joins that could pay one in it: along each link from a group in
@@ -29,8 +29,8 @@ pub fn drained(
     copy_ends(e, links, &mut ends);
     let mut x = [0u64; LINKS];
     take_amounts(e, amounts, &mut x);
-    let mut order = [0u16; GROUPS];
-    let mut by = [0u16; GROUPS];
+    let mut order = [0u16; PLACES];
+    let mut by = [0u16; PLACES];
     let started = begin(n, lack, t, &mut order);
     grow(
         n,

@@ -2,7 +2,7 @@
 // they join is the queue of the growing, breadth first, and with the link through which each joined it is the way back for a wave.
 use crate::ends::end_in;
 ghost use Rattle.flow.specs.Copies.{copied, flowing};
-ghost use Rattle.flow.specs.Drains.{Beginnable, BeginRoom, Joinable, Growing, GrowingBack, Growable, Begun, Begins, Joins, JoinsBack, GrewForth, GrewBack, Grown};
+ghost use Rattle.flow.specs.Drains.{Beginnable, BeginRoom, Joinable, Growing, GrowingBack, Growable, Begun, Begins, Joins, MarkAfter, GrewForth, GrewBack, Grown};
 
 // Group g begins it where it has a lack: the next place of the order is then its own.
 fn begin_at(g: usize, lack: u64, t: &mut [u8], order: &mut [u16], count: usize) -> usize
@@ -32,37 +32,32 @@ pub fn begin(n: usize, lack: &[u64], t: &mut [u8], order: &mut [u16]) -> usize
     count
 }
 
-// Group g joins through link k, if it has not joined before. The count of those that have joined.
-fn join(g: usize, k: usize, t: &mut [u8], order: &mut [u16], by: &mut [u16], count: usize) -> usize
-    requires { ⌜ Joinable g k (now t) (now order) (now by) count ⌝ }
-    ensures { λ r. ⌜ Joins g k (now (t .entry)) (now (order .entry)) (now (by .entry)) count (now (t .exit)) (now (order .exit)) (now (by .exit)) r ⌝ }
-{
-    if t[g] == 0 {
-        t[g] = 1;
-        order[count] = g as u16;
-        by[count] = k as u16;
-        return count + 1;
-    }
-    count
-}
-
-// It can give back what link k brought it, if that is anything.
-fn join_back(
-    amount: u64,
+// Group g joins through link k where its mark rises, which it does once. Whether it does is not asked: a branch there would go now this way and
+// now that. Where the mark stays, the place after the last is written all the same, and is still free. The count of those that have joined.
+fn join(
     g: usize,
     k: usize,
+    mark: u8,
     t: &mut [u8],
     order: &mut [u16],
     by: &mut [u16],
     count: usize,
 ) -> usize
-    requires { ⌜ Joinable g k (now t) (now order) (now by) count ⌝ }
-    ensures { λ r. ⌜ JoinsBack amount g k (now (t .entry)) (now (order .entry)) (now (by .entry)) count (now (t .exit)) (now (order .exit)) (now (by .exit)) r ⌝ }
+    requires { ⌜ Joinable g k mark (now t) (now order) (now by) count ⌝ }
+    ensures { λ r. ⌜ Joins g k mark (now (t .entry)) (now (order .entry)) (now (by .entry)) count (now (t .exit)) (now (order .exit)) (now (by .exit)) r ⌝ }
 {
-    if amount == 0 {
-        return count;
-    }
-    join(g, k, t, order, by, count)
+    let risen = mark - t[g];
+    t[g] = mark;
+    order[count] = g as u16;
+    by[count] = k as u16;
+    count + risen as usize
+}
+
+// The mark of a group that can give back the amount, if that is anything.
+fn mark_after(amount: u64, was: u8) -> u8
+    ensures { λ r. ⌜ MarkAfter amount was r ⌝ }
+{
+    if amount == 0 { was } else { 1 }
 }
 
 // Along the links from g: whoever they go to can pay g. (The code asks nothing of n; what is promised of the order does.)
@@ -85,7 +80,7 @@ fn forth(
     let mut k = head[g] as usize;
     while k < e {
         let q = end_in(ends, k, 1);
-        count = join(q, k, t, order, by, count);
+        count = join(q, k, 1, t, order, by, count);
         k = next[k] as usize;
     }
     count
@@ -111,9 +106,9 @@ fn back(
     let mut count = started;
     let mut k = head[g] as usize;
     while k < e {
-        let amount = amounts[k];
         let p = end_in(ends, k, 0);
-        count = join_back(amount, p, k, t, order, by, count);
+        let mark = mark_after(amounts[k], t[p]);
+        count = join(p, k, mark, t, order, by, count);
         k = next[k] as usize;
     }
     count

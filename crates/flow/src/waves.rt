@@ -3,7 +3,7 @@
 use crate::drains::begin;
 use crate::drains::grow;
 use crate::sends::send;
-use crate::sizes::GROUPS;
+use crate::sizes::PLACES;
 use crate::spills::spill;
 ghost use Rattle.flow.specs.Waves.{Apartable, SetApart, Turnable, Turned, Pourable, Poured, Wavable, WavedOnce, WavesAsk, WavedAll};
 
@@ -180,8 +180,8 @@ pub fn waves(
     requires { ⌜ WavesAsk n e (now ends) (now «from_head») (now «from_next») (now «to_head») (now «to_next») (now amounts) (now excess) (now lack) (now t) ⌝ }
     ensures { λ r. ⌜ WavedAll n e (now (ends .entry)) (now (amounts .entry)) (now (excess .entry)) (now (lack .entry)) (now (t .entry)) (now (amounts .exit)) (now (excess .exit)) (now (lack .exit)) (now (t .exit)) ⌝ }
 {
-    let mut order = [0u16; GROUPS];
-    let mut by = [0u16; GROUPS];
+    let mut order = [0u16; PLACES];
+    let mut by = [0u16; PLACES];
     loop {
         let sent = wave(
             n,

@@ -29,7 +29,7 @@ end-in-requires c κs = (omega arith, omega (arith, c .before .before .before .b
 join-requires : tie.Need-join-requires Inv-loop μ-loop
 join-requires c κs =
     joinable (c .before .before .before .before .before .before .before .before .before .before .before .before .before .pre .net) (grew-room (c .before .before .before .before .before .loop .inv .grew (λ i. 0)) (c .before .before .before .before .before .before .before .before .before .before .before .before .before .pre .room)) (c .before .before .before .before .before .loop .inv .grew (λ i. 0) .placed)
-    (rw (c .before .before .before .end-in .ensures) (c .before .before .before .before .before .before .before .before .before .before .before .before .before .pre .net .to (c .before .before .before .before .before .loop .k) (c .before .before .before .before .loop-test .taken))) (c .before .before .before .before .loop-test .taken)
+    (rw (c .before .before .before .end-in .ensures) (c .before .before .before .before .before .before .before .before .before .before .before .before .before .pre .net .to (c .before .before .before .before .before .loop .k) (c .before .before .before .before .loop-test .taken))) (c .before .before .before .before .loop-test .taken) (c .before .before .before .before .before .loop .inv .grew (λ i. 0) .placed .bits _ (rw (c .before .before .before .end-in .ensures) (c .before .before .before .before .before .before .before .before .before .before .before .before .before .pre .net .to (c .before .before .before .before .before .loop .k) (c .before .before .before .before .loop-test .taken)))) (omega arith)
 
 mul-k-2 : tie.Need-mul-k-2 Inv-loop μ-loop
 mul-k-2 c = omega (arith, c .before .before .before .before .before .before .before .before .before .before .before .before .before .before .before .before .before .before .before .before .pre .net .few-links, c .before .before .before .before .before .before .before .before .before .before .before .loop-test .taken)

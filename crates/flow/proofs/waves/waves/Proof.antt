@@ -1,4 +1,5 @@
 -- `flow::waves::waves` meets its contract. The invariant: the state has flowed so far. The measure is the total lack. Assumes nothing.
+use Prim.Native.Nat.{_+_}
 use mathlib.Core.Path.{_≡_, refl, sym, _∙_}
 use native.Mathlib.Omega.{arith}
 use lib.ListN.{length}
@@ -13,7 +14,7 @@ use Rattle.flow.proofs.waves.waves.Tie as tie
 
 abbrev Inv-loop : tie.InvT-loop
 Inv-loop n e ends from-head from-next to-head to-next amounts₀ excess₀ lack₀ t₀ order₀ by₀ amounts excess lack t order by =
-    Waved n e ends amounts₀ excess₀ lack₀ t₀ amounts excess lack t × (length order ≡ groupLimit) × (length by ≡ groupLimit)
+    Waved n e ends amounts₀ excess₀ lack₀ t₀ amounts excess lack t × (length order ≡ groupLimit + 1) × (length by ≡ groupLimit + 1)
 
 abbrev μ-loop : tie.MeasureT-loop
 μ-loop n e ends from-head from-next to-head to-next amounts₀ excess₀ lack₀ t₀ order₀ by₀ amounts excess lack t order by = lacks n lack
