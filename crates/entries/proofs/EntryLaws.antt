@@ -12,7 +12,7 @@ use Rattle.survey.specs.Limits.{entryBytes}
 use Rattle.survey.specs.Survey as survey
 use Rattle.survey.specs.Words.{longWord, standsAt, lent, entries, amountAt}
 use Rattle.entries.specs.declared.Link.{Link}
-use Rattle.entries.specs.Entries.{EntryWithin, LinkIs, withAmount}
+use Rattle.entries.specs.Entries.{stand, EntryWithin, LinkIs, withAmount}
 use Rattle.words.proofs.WordLaws.{long-word-with, long-word-with-other}
 
 pub link-one : {r r′ : Link} {k : survey.Link} → LinkIs r k → LinkIs r′ k → r ≡ r′
@@ -38,3 +38,7 @@ module _ (l : List ℕ) (k x : ℕ) where
       go : (t : Bool) → ltb j k ≡ t → (standsAt lent j + 8 ≤ entryBytes * k) ⊎ (entryBytes * k + 8 ≤ standsAt lent j)
       go true e = inl (omega (arith, ltb-true j k e))
       go false e = inr (omega (arith, ltb-false j k e))
+
+-- where there is no gap there is nothing to divide
+pub no-gap : (base k : ℕ) {gap : ℕ} → gap ≡ 0 → base + 8 * k ≡ standsAt (stand base gap) k
+no-gap base k z = rw z (omega arith)

@@ -22,6 +22,10 @@ pub fn entry_place(base: usize, gap: usize, k: usize) -> usize
     requires { ⌜ standsAt (stand base gap) k < 2 ^ 64 ⌝ }
     ensures { λ r. ⌜ r ≡ standsAt (stand base gap) k ⌝ }
 {
+    // In a lent list, where entries are looked at most, there is no gap and nothing to divide.
+    if gap == 0 {
+        return base + 8 * k;
+    }
     base + 8 * k + gap * (k / 62)
 }
 
