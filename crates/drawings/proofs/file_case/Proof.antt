@@ -2,8 +2,8 @@
 use native.Mathlib.Omega.{arith}
 use Rattle.printing.proofs.PrintsOne.{printed-within, printed-counts}
 use borrow.Author.Needs.{needs}
-use Rattle.drawings.proofs.files.file_case.Statement.{statement}
-use Rattle.drawings.proofs.files.file_case.Tie as tie
+use Rattle.drawings.proofs.file_case.Statement.{statement}
+use Rattle.drawings.proofs.file_case.Tie as tie
 
 slice-aggregate-load : tie.Need-slice-aggregate-load
 slice-aggregate-load c = search needs

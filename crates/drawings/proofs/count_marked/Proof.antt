@@ -3,8 +3,8 @@ use Prim.Native.Nat.{_≤_, _-_}
 use lib.ListN.{length}
 use mathlib.Core.Logic.{⊎-elim}
 use native.Mathlib.Omega.{arith}
-use Rattle.drawings.proofs.lists.count_marked.Statement.{statement}
-use Rattle.drawings.proofs.lists.count_marked.Tie as tie
+use Rattle.drawings.proofs.count_marked.Statement.{statement}
+use Rattle.drawings.proofs.count_marked.Tie as tie
 
 abbrev Inv-loop : tie.InvT-loop
 Inv-loop marks k₀ g₀ k g = (g ≤ length marks) × (k ≤ g)

@@ -3,8 +3,8 @@ use Prim.Native.Nat.{_≤_, _-_, _*_}
 use lib.ListN.{length}
 use mathlib.Core.Path.{_≡_, _∙_}
 use native.Mathlib.Omega.{arith}
-use Rattle.drawings.proofs.lists.millions.Statement.{statement}
-use Rattle.drawings.proofs.lists.millions.Tie as tie
+use Rattle.drawings.proofs.millions.Statement.{statement}
+use Rattle.drawings.proofs.millions.Tie as tie
 
 abbrev Inv-loop : tie.InvT-loop
 Inv-loop groups₀ left₀ groups left = (length groups ≡ length groups₀) × (4 * left ≤ length groups₀)
