@@ -21,7 +21,7 @@ use Rattle.survey.proofs.LastRound.{Reached, reached-none, reached-more, reache
 use Rattle.survey.proofs.RoundSets.{round-accepted}
 use Rattle.survey.proofs.RoundCount.{size-few}
 use Rattle.calls.specs.Calls.{AdmittedCall}
-use Rattle.chooser.specs.Copies.{Copied}
+use Rattle.weights.specs.Put.{PutFirst}
 use Rattle.chooser.specs.Rounds.{Listed, RoundAsks, RoundsAsk, AllAsk, Kept, Round, Ended}
 use Rattle.chooser.proofs.CopyLaws.{copied-marks, copied-amounts}
 
@@ -117,14 +117,14 @@ bit {x} h = at (ℕ-discrete x 0)
     at (yes z) = inl z
     at (no d) = inr (omega arith)
 
-module _ {n e : ℕ} {groups links marks amounts current₀ flowing₀ current flowing marks′ amounts′ : List ℕ} {r : ℕ} (x : AdmittedCall n e groups links marks amounts) (w : Ended n e groups links current₀ flowing₀ r current flowing) (m : Copied n current marks marks′) (a : Copied (entryBytes * e) flowing amounts amounts′) where
+module _ {n e : ℕ} {groups links marks amounts current₀ flowing₀ current flowing marks′ amounts′ : List ℕ} {r : ℕ} (x : AdmittedCall n e groups links marks amounts) (w : Ended n e groups links current₀ flowing₀ r current flowing) (m : PutFirst n (λ i. getD current i 0) marks marks′) (a : PutFirst (entryBytes * e) (λ i. getD flowing i 0) amounts amounts′) where
   same-marks : Same (surveyOf n e groups links) (markedSet current) (markedSet marks′)
   unfolding surveyAt
-  same-marks = record { at = copied-marks m }
+  same-marks = record { at = copied-marks current m }
 
   same-amounts : SameAmounts (surveyOf n e groups links) (amountsOf flowing) (amountsOf amounts′)
   unfolding surveyAt
-  same-amounts = record { at = copied-amounts a }
+  same-amounts = record { at = copied-amounts flowing a }
 
   marked : Marked marks marks′ (surveyOf n e groups links .n)
   unfolding surveyAt
@@ -132,7 +132,7 @@ module _ {n e : ℕ} {groups links marks amounts current₀ flowing₀ current f
 
   put : AmountsPut amounts amounts′ (surveyOf n e groups links .e)
   unfolding surveyAt
-  put = record { long = a .long; small = λ k l. omega (arith, copied-amounts a k l, w .worked .small k l); rest = a .rest }
+  put = record { long = a .long; small = λ k l. omega (arith, copied-amounts flowing a k l, w .worked .small k l); rest = a .rest }
 
   pub chosen : Chooses (surveyOf n e groups links) r marks amounts marks′ amounts′
   chosen =

@@ -1,3 +1,2 @@
 -- What the code of the chooser promises, from the bottom up.
-pub mod Copies
 pub mod Rounds
