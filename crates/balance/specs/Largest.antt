@@ -12,12 +12,6 @@ use Rattle.refusals.specs.Searches.{Finds}
 use Rattle.flow.specs.Links.{Given}
 use Rattle.flow.specs.Drains.{Net, Least}
 
-pub record DrainAsks (n e : ℕ) (links amounts lack t : List ℕ) : Type 0 where
-  pub net : Net n e links
-  pub amounts-long : entryBytes * e ≤ length amounts
-  pub lack-long : n ≤ length lack
-  pub t-long : n ≤ length t
-
 -- each group has its mark in both lists
 pub record MarksLong (n : ℕ) (t marks : List ℕ) : Type 0 where
   pub t-long : n ≤ length t

@@ -1,40 +1,12 @@
 // 18: the largest set of the balance rule is what lies outside the set that drains: the least one that holds each group with a lack and grows
 // along each link from a group in it, and back along each link to one in it that has an amount.
 use crate::sizes::GROUPS;
-use crate::sizes::LINKS;
-use flow::chains::chain;
 use flow::draining::drained;
 use refusals::found::Found;
 ghost use Prim.Native.Nat.{_<_};
 ghost use lib.ListN.{length};
 ghost use Rattle.refusals.specs.Searches.{Finds, Tells};
-ghost use Rattle.flow.specs.Drains.{Drained};
-ghost use Rattle.balance.specs.Largest.{DrainAsks, Outside, outsideRow, MarksLong, LargestAsks, LeftOutFound};
-
-// Marks the set that drains. The chains are needed for one draining only, so they stand here.
-fn drain(n: usize, e: usize, links: &[u8], amounts: &[u8], lack: &[u64], t: &mut [u8])
-    requires { ⌜ DrainAsks n e (now links) (now amounts) (now lack) (now t) ⌝ }
-    ensures { λ r. ⌜ Drained n e (now (links .entry)) (now (amounts .entry)) (now (lack .entry)) (now (t .entry)) (now (t .exit)) ⌝ }
-{
-    let mut from_head = [0u16; GROUPS];
-    let mut from_next = [0u16; LINKS];
-    let mut to_head = [0u16; GROUPS];
-    let mut to_next = [0u16; LINKS];
-    chain(links, n, e, 0, &mut from_head, &mut from_next);
-    chain(links, n, e, 4, &mut to_head, &mut to_next);
-    drained(
-        n,
-        e,
-        links,
-        amounts,
-        lack,
-        &from_head,
-        &from_next,
-        &to_head,
-        &to_next,
-        t,
-    );
-}
+ghost use Rattle.balance.specs.Largest.{Outside, outsideRow, MarksLong, LargestAsks, LeftOutFound};
 
 // Neither in the draining set nor claimed.
 fn is_outside(t: &[u8], marks: &[u8], g: usize) -> bool
@@ -74,6 +46,6 @@ pub fn first_left_out(
     ensures { λ r. ⌜ LeftOutFound n e (now (links .entry)) (now (marks .entry)) (now (amounts .entry)) (now (lack .entry)) r ⌝ }
 {
     let mut t = [0u8; GROUPS];
-    drain(n, e, links, amounts, lack, &mut t);
+    drained(n, e, links, amounts, lack, &mut t);
     first_outside(n, &t, marks)
 }

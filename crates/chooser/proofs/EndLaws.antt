@@ -22,7 +22,7 @@ use Rattle.survey.proofs.RoundSets.{round-accepted}
 use Rattle.survey.proofs.RoundCount.{size-few}
 use Rattle.calls.specs.Calls.{AdmittedCall}
 use Rattle.weights.specs.Put.{PutFirst}
-use Rattle.chooser.specs.Rounds.{Listed, RoundAsks, RoundsAsk, AllAsk, Kept, Round, Ended}
+use Rattle.chooser.specs.Rounds.{Listed, AllAsk, Kept, Round, Ended}
 use Rattle.chooser.proofs.CopyLaws.{copied-marks, copied-amounts}
 
 kept-none : {n e : ℕ} {c a : List ℕ} → Kept n e c a c a
@@ -43,7 +43,7 @@ pub record Running (n e : ℕ) (groups links current₀ amounts₀ : List ℕ) (
   pub few : r + size (surveyOf n e groups links) (markedSet current) ≤ n
   pub kept : Kept n e current₀ amounts₀ current amounts
 
-module _ {n e : ℕ} {groups links fh fn th tn current₀ amounts₀ : List ℕ} (x : RoundsAsk n e groups links fh fn th tn current₀ amounts₀) where
+module _ {n e : ℕ} {groups links current₀ amounts₀ : List ℕ} (x : AllAsk n e groups links current₀ amounts₀) where
   pub running-none : Running n e groups links current₀ amounts₀ 0 current₀ amounts₀
   unfolding surveyAt
   running-none =
@@ -54,19 +54,14 @@ module _ {n e : ℕ} {groups links fh fn th tn current₀ amounts₀ : List ℕ}
       }
 
   module _ {r : ℕ} {current amounts : List ℕ} (w : Running n e groups links current₀ amounts₀ r current amounts) where
-    pub asks-after : RoundAsks n e groups links fh fn th tn current amounts
-    asks-after =
+    pub listed-after : Listed n e groups links current amounts
+    listed-after =
         record {
-          listed =
-              record {
-                sound = x .asks .listed .sound;
-                groups-long = x .asks .listed .groups-long;
-                links-long = x .asks .listed .links-long;
-                current-long = omega (arith, x .asks .listed .current-long, w .kept .current-long);
-                amounts-long = omega (arith, x .asks .listed .amounts-long, w .kept .amounts-long);
-              };
-          forth = x .asks .forth;
-          back = x .asks .back;
+          sound = x .listed .sound;
+          groups-long = x .listed .groups-long;
+          links-long = x .listed .links-long;
+          current-long = omega (arith, x .listed .current-long, w .kept .current-long);
+          amounts-long = omega (arith, x .listed .amounts-long, w .kept .amounts-long);
         }
 
     module _ {more : Bool} {current′ amounts′ : List ℕ} (o : Round n e groups links current amounts more current′ amounts′) where
@@ -87,7 +82,7 @@ module _ {n e : ℕ} {groups links fh fn th tn current₀ amounts₀ : List ℕ}
             worked = record { small = o .worked .small; bits = o .worked .bits; kept = kept-on (w .kept) (o .worked .kept) };
             counted = reached-last (w .reached) (o .round .heaviest) (o .round .last z);
             accepted =
-                round-accepted (x .asks .listed .sound .inside) (markedSet current′) (x .asks .listed .sound .someDead) (w .reached .current) (o .round .drains)
+                round-accepted (x .listed .sound .inside) (markedSet current′) (x .listed .sound .someDead) (w .reached .current) (o .round .drains)
                 (o .round .dry) (o .round .last z);
           }
 

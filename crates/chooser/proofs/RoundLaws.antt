@@ -17,6 +17,7 @@ use Rattle.survey.proofs.Sums.{sum-cong}
 use Rattle.survey.proofs.GivenSurvey.{given-n, given-e}
 use Rattle.survey.proofs.Admitted.{dead-small, cost-small}
 use Rattle.survey.proofs.BalanceRule.{weighs-plus}
+use Rattle.survey.proofs.FewLinks.{link-once}
 use Rattle.survey.proofs.RoundSets.{none-zero, some-more}
 use Rattle.refusals.specs.Searches.{Tells}
 use Rattle.refusals.proofs.Looking.{told, told-not}
@@ -24,12 +25,12 @@ use Rattle.weights.specs.Marked.{groupsOf, MarkedGroups}
 use Rattle.weights.specs.Put.{WeightsPut}
 use Rattle.weights.proofs.MarkedLaws.{sound-groups}
 use Rattle.weights.proofs.PutLaws.{plus-put, minus-put}
-use Rattle.flow.specs.Chains.{Chainable}
+use Rattle.flow.specs.Links.{Given}
 use Rattle.flow.specs.Drains.{Net}
 use Rattle.flow.specs.Heavy.{Weighed, Weighable, Proves, Heavy}
-use Rattle.flow.proofs.LinkLaws.{survey-given, inside-ends}
+use Rattle.flow.proofs.LinkLaws.{survey-given, given-from, given-to, inside-ends}
 use Rattle.flow.proofs.HeavyLaws.{bare-no-cycle}
-use Rattle.chooser.specs.Rounds.{AnyAbove, Listed, RoundAsks, Kept, Worked, Round}
+use Rattle.chooser.specs.Rounds.{AnyAbove, Listed, Kept, Worked, Round}
 
 -- ---- looking for an excess
 
@@ -71,18 +72,9 @@ module _ {n e : ℕ} {groups links current amounts : List ℕ} (x : Listed n e g
   pub listed-marked : MarkedGroups n groups current
   listed-marked = record { some = sound-groups n e groups links (x .sound) (x .groups-long); marks-long = x .current-long }
 
-  -- both chains can be built
-  pub chain-from : {head next : List ℕ} → groupLimit ≤ length head → linkLimit ≤ length next → Chainable links n e 0 head next
-  chain-from h m =
-      record { few = few-links; small = omega arith; links-long = x .links-long; head-long = omega (arith, few-groups); next-long = omega (arith, few-links); below = listed-net .from }
-
-  pub chain-to : {head next : List ℕ} → groupLimit ≤ length head → linkLimit ≤ length next → Chainable links n e 4 head next
-  chain-to h m =
-      record { few = few-links; small = omega arith; links-long = x .links-long; head-long = omega (arith, few-groups); next-long = omega (arith, few-links); below = listed-net .to }
-
 -- ---- weights of the current set
 
-module _ {n e d l : ℕ} {groups links fh fn th tn current amounts plus₀ minus₀ plus minus : List ℕ} (x : RoundAsks n e groups links fh fn th tn current amounts) (is-d : d ≡ D (groupsOf n groups) (markedSet current)) (is-l : l ≡ L (groupsOf n groups) (markedSet current)) (put : WeightsPut n groups d l plus₀ minus₀ plus minus) where
+module _ {n e d l : ℕ} {groups links current amounts plus₀ minus₀ plus minus : List ℕ} (x : Listed n e groups links current amounts) (is-d : d ≡ D (groupsOf n groups) (markedSet current)) (is-l : l ≡ L (groupsOf n groups) (markedSet current)) (put : WeightsPut n groups d l plus₀ minus₀ plus minus) where
   own : WeightsPut n groups (D (groupsOf n groups) (markedSet current)) (L (groupsOf n groups) (markedSet current)) plus₀ minus₀ plus minus
   own = rw (is-d, is-l) at put
 
@@ -101,20 +93,25 @@ module _ {n e d l : ℕ} {groups links fh fn th tn current amounts plus₀ minus
         arith,
         sum-cong n (λ g. getD plus g 0) _ (plus-put e links (markedSet current) own),
         weighs-plus (surveyOf n e groups links) (markedSet current) allGroups,
-        mul-le-mul (dead-small (x .listed .sound) allGroups) (cost-small (x .listed .sound) (markedSet current)),
+        mul-le-mul (dead-small (x .sound) allGroups) (cost-small (x .sound) (markedSet current)),
       )
 
-  pub round-weighable : n ≤ length plus₀ → n ≤ length minus₀ → Weighable n e links fh fn th tn plus minus current amounts
+  v : Given (surveyOf n e groups links) n e links
+  v = survey-given n e groups links
+
+  pub round-weighable : n ≤ length plus₀ → n ≤ length minus₀ → Weighable n e links plus minus current amounts
   round-weighable p m =
       record {
-        net = listed-net (x .listed);
-        no-cycle = bare-no-cycle (survey-given n e groups links) (x .listed .sound .noCycle);
-        forth = x .forth;
-        back = x .back;
+        net = listed-net x;
+        no-cycle = bare-no-cycle (survey-given n e groups links) (x .sound .noCycle);
+        once =
+            λ j k a b p q.
+            link-once (x .sound) j k (rw (given-e n e groups lent links lent) a) (rw (given-e n e groups lent links lent) b)
+            (given-from v j a ∙ p ∙ sym (given-from v k b)) (given-to v j a ∙ q ∙ sym (given-to v k b));
         plus-long = omega (arith, put .pluses .long);
         minus-long = omega (arith, put .minuses .long);
-        marks-long = x .listed .current-long;
-        amounts-long = x .listed .amounts-long;
+        marks-long = x .current-long;
+        amounts-long = x .amounts-long;
         small = small;
       }
 
@@ -126,13 +123,13 @@ module _ {n e d l : ℕ} {groups links fh fn th tn current amounts plus₀ minus
     more-weighs : AnyAbove n plus′ → WeighsZero (surveyOf n e groups links) (weights (surveyOf n e groups links) (markedSet current)) (markedSet current′) → ⊥
     unfolding surveyAt
     more-weighs a =
-        some-more (x .listed .sound .inside) (weights (surveyOf n e groups links) (markedSet current)) (markedSet current′) (proves .drains) (proves .dry) (a .group)
+        some-more (x .sound .inside) (weights (surveyOf n e groups links) (markedSet current)) (markedSet current′) (proves .drains) (proves .dry) (a .group)
         (a .below) (omega (arith, proves .balanced .above (a .group) (a .below), a .above))
 
     none-weighs : (AnyAbove n plus′ → ⊥) → WeighsZero (surveyOf n e groups links) (weights (surveyOf n e groups links) (markedSet current)) (markedSet current′)
     unfolding surveyAt
     none-weighs d =
-        none-zero (x .listed .sound .inside) (weights (surveyOf n e groups links) (markedSet current)) (markedSet current′) (proves .drains) (proves .dry)
+        none-zero (x .sound .inside) (weights (surveyOf n e groups links) (markedSet current)) (markedSet current′) (proves .drains) (proves .dry)
         (λ g l. sym (proves .balanced .above g l) ∙ zero (λ p. d (record { group = g; below = l; above = p })))
       where
         zero : {y : ℕ} → (0 < y → ⊥) → y ≡ 0

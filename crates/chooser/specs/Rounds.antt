@@ -12,8 +12,6 @@ use Rattle.survey.specs.Balance.{credit, debit, Accepted}
 use Rattle.survey.specs.Words.{surveyOf, markedSet, amountsOf}
 use Rattle.survey.proofs.Admitted.{Sound}
 use Rattle.survey.proofs.Draining.{Drains}
-use Rattle.flow.specs.Links.{endOf}
-use Rattle.flow.specs.Drains.{Index}
 
 -- some group has a number above 0
 pub record AnyAbove (n : ℕ) (l : List ℕ) : Type 0 where
@@ -31,18 +29,7 @@ pub record Listed (n e : ℕ) (groups links current amounts : List ℕ) : Type 0
   pub current-long : n ≤ length current
   pub amounts-long : entryBytes * e ≤ length amounts
 
--- with its two chains
-pub record RoundAsks (n e : ℕ) (groups links from-head from-next to-head to-next current amounts : List ℕ) : Type 0 where
-  pub listed : Listed n e groups links current amounts
-  pub forth : Index n e (endOf links 0) from-head from-next
-  pub back : Index n e (endOf links 4) to-head to-next
-
 -- "Begin with the current set equal to all groups."
-pub record RoundsAsk (n e : ℕ) (groups links from-head from-next to-head to-next current amounts : List ℕ) : Type 0 where
-  pub asks : RoundAsks n e groups links from-head from-next to-head to-next current amounts
-  pub all : Same (surveyOf n e groups links) allGroups (markedSet current)
-
--- the same with no chain yet
 pub record AllAsk (n e : ℕ) (groups links current amounts : List ℕ) : Type 0 where
   pub listed : Listed n e groups links current amounts
   pub all : Same (surveyOf n e groups links) allGroups (markedSet current)

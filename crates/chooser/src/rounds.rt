@@ -8,7 +8,7 @@ use weights::put_weights;
 ghost use Prim.Native.Nat.{_≤_};
 ghost use lib.ListN.{length};
 ghost use Rattle.refusals.specs.Searches.{Tells};
-ghost use Rattle.chooser.specs.Rounds.{AnyAbove, RoundAsks, Round, RoundsAsk, Ended};
+ghost use Rattle.chooser.specs.Rounds.{AnyAbove, Listed, Round, AllAsk, Ended};
 
 // Whether any group's excess is above 0. What the heaviest set weighs is the excess that no group could send on, so this is whether it weighs
 // more than 0.
@@ -32,14 +32,10 @@ fn round(
     e: usize,
     groups: &[u8],
     links: &[u8],
-    from_head: &[u16],
-    from_next: &[u16],
-    to_head: &[u16],
-    to_next: &[u16],
     current: &mut [u8],
     amounts: &mut [u8],
 ) -> bool
-    requires { ⌜ RoundAsks n e (now groups) (now links) (now «from_head») (now «from_next») (now «to_head») (now «to_next») (now current) (now amounts) ⌝ }
+    requires { ⌜ Listed n e (now groups) (now links) (now current) (now amounts) ⌝ }
     ensures { λ r. ⌜ Round n e (now (groups .entry)) (now (links .entry)) (now (current .entry)) (now (amounts .entry)) r (now (current .exit)) (now (amounts .exit)) ⌝ }
 {
     let d = dead_sum(n, groups, current);
@@ -47,52 +43,25 @@ fn round(
     let mut plus = [0u64; GROUPS];
     let mut minus = [0u64; GROUPS];
     put_weights(n, groups, d, l, &mut plus, &mut minus);
-    heaviest(
-        n,
-        e,
-        links,
-        from_head,
-        from_next,
-        to_head,
-        to_next,
-        &mut plus,
-        &mut minus,
-        current,
-        amounts,
-    );
+    heaviest(n, e, links, &mut plus, &mut minus, current, amounts);
     any_above(n, &plus)
 }
 
-// Round after round. "The last round is counted."
+// Round after round: "Begin with the current set equal to all groups .. The last round is counted."
 pub fn rounds(
     n: usize,
     e: usize,
     groups: &[u8],
     links: &[u8],
-    from_head: &[u16],
-    from_next: &[u16],
-    to_head: &[u16],
-    to_next: &[u16],
     current: &mut [u8],
     amounts: &mut [u8],
 ) -> u64
-    requires { ⌜ RoundsAsk n e (now groups) (now links) (now «from_head») (now «from_next») (now «to_head») (now «to_next») (now current) (now amounts) ⌝ }
+    requires { ⌜ AllAsk n e (now groups) (now links) (now current) (now amounts) ⌝ }
     ensures { λ r. ⌜ Ended n e (now (groups .entry)) (now (links .entry)) (now (current .entry)) (now (amounts .entry)) r (now (current .exit)) (now (amounts .exit)) ⌝ }
 {
     let mut r = 0;
     loop {
-        let more = round(
-            n,
-            e,
-            groups,
-            links,
-            from_head,
-            from_next,
-            to_head,
-            to_next,
-            current,
-            amounts,
-        );
+        let more = round(n, e, groups, links, current, amounts);
         r += 1;
         if !more {
             return r;

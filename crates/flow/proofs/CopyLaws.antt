@@ -23,8 +23,7 @@ use Rattle.entries.specs.Entries.{withAmount}
 use Rattle.entries.proofs.EntryLaws.{amount-with, amount-with-other}
 use Rattle.flow.specs.Links.{endOf, Given}
 use Rattle.flow.specs.Copies.{endIn, copied, Copyable, Copy, Copied, Taken, Put}
-use Rattle.flow.specs.Chains.{IsNext}
-use Rattle.flow.specs.Drains.{Net, Index, Least}
+use Rattle.flow.specs.Drains.{Net, Least}
 use Rattle.flow.specs.Sends.{Balanced}
 use Rattle.flow.proofs.LinkLaws.{given-from, given-to, given-below}
 
@@ -99,24 +98,6 @@ module _ {s s′ : Survey} {x x′ : Amounts} (a : Alike s s′ x x′) where
 
 -- ---- the copy of a whole survey
 
--- an index by an end is one by the copy of that end
-index-alike : {n e : ℕ} {ends ends′ : ℕ → ℕ} {head next : List ℕ} → ((k : ℕ) → k < e → ends′ k ≡ ends k) → Index n e ends head next → Index n e ends′ head next
-index-alike {n} {e} {ends} {ends′} same x =
-    record {
-      chains = record { heads = λ g h. next (x .chains .heads g h); nexts = λ k h. rw (same k h) (next (x .chains .nexts k h)) };
-      head-long = x .head-long;
-      next-long = x .next-long;
-    }
-  where
-    next : {g j k : ℕ} → IsNext e ends g j k → IsNext e ends′ g j k
-    next {k = k} y =
-        record {
-          from = y .from;
-          within = y .within;
-          hit = λ h. same k h ∙ y .hit h;
-          first = λ i a b z. y .first i a b (sym (same i (omega (arith, y .within))) ∙ z);
-        }
-
 module _ {n e : ℕ} {links ends : List ℕ} where
   pub net-copyable : Net n e links → 2 * e ≤ length ends → Copyable e links ends
   net-copyable net room =
@@ -138,12 +119,6 @@ module _ {n e : ℕ} {links ends : List ℕ} where
           from = λ k l. rw (o .from k l) (net .from k l);
           to = λ k l. rw (o .to k l) (net .to k l);
         }
-
-    pub forth-copy : {head next : List ℕ} → Index n e (endOf links 0) head next → Index n e (endIn ends′ 0) head next
-    forth-copy = index-alike (o .from)
-
-    pub back-copy : {head next : List ℕ} → Index n e (endOf links 4) head next → Index n e (endIn ends′ 1) head next
-    back-copy = index-alike (o .to)
 
 -- ---- link after link
 

@@ -1,15 +1,20 @@
 -- Laws of sends one after the other: the turn of one group.
-use Prim.Native.Nat.{ℕ, _-_, _≤_, _<_}
+use Prim.Native.Nat.{ℕ, _+_, _-_, _≤_, _<_}
 use native.Mathlib.Omega.{arith}
 use mathlib.Core.Path.{_≡_, refl, sym, _∙_}
 use mathlib.Core.Logic.{_⊎_, inl, inr}
 use mathlib.Core.List.{List}
-use lib.ListN.{getD}
+use mathlib.Core.Bool.{Bool, true, false}
+use lib.ListN.{length, getD}
+use lib.Dec.{eqb, ltb}
+use borrow.Author.Tests.{eqb-true, eqb-false, ltb-true, ltb-false}
 use Rattle.survey.proofs.SumOrder.{sum-le}
 use Rattle.flow.specs.Copies.{endIn, copied, flowing}
-use Rattle.flow.specs.Drains.{Way, pays, gives-back}
+use Rattle.flow.specs.Chains.{IsNext}
+use Rattle.flow.specs.Ways.{Way, pays, gives-back, Noted}
 use Rattle.flow.specs.Sends.{Course, Sends}
-use Rattle.flow.specs.Waves.{Flowed, lacks, Passed, fallen, full, onward, Offerable, Offered, kept, took, leastFor, Spillable, Spilled, none, some, Turnable, Turned, rests, sent}
+use Rattle.flow.specs.Waves.{Flowed, Rows, Ran, lacks, Coming, Rises, Passed, fallen, full, onward, Offerable, Offered, kept, took, leastFor, Spillable, Takable, Spilled, none, some, Turnable, Turned, rests, sent}
+use Rattle.flow.proofs.WayLaws.{noted-ways, noted-length}
 use Rattle.flow.proofs.SafeLaws.{Sent, sendable, sends-sent}
 
 -- ---- one flowing after the other
@@ -46,6 +51,7 @@ course-after c f =
     record {
       net = c .net;
       no-cycle = c .no-cycle;
+      once = c .once;
       amounts-long = omega (arith, c .amounts-long, f .amounts-long);
       ex-long = omega (arith, c .ex-long, f .ex-long);
       la-long = omega (arith, c .la-long, f .la-long);
@@ -57,6 +63,14 @@ course-after c f =
             small = c .safe .small;
           };
     }
+
+pub ran-none : {n e : ℕ} {ends amounts ex la ways : List ℕ} → Ran n e ends amounts ex la ways amounts ex la ways
+ran-none = record { flowed = flow-none; rows = λ r. r; long = refl }
+
+pub ran-on :
+    {n e : ℕ} {ends amounts ex la ways amounts′ ex′ la′ ways′ amounts″ ex″ la″ ways″ : List ℕ} → Ran n e ends amounts ex la ways amounts′ ex′ la′ ways′
+    → Ran n e ends amounts′ ex′ la′ ways′ amounts″ ex″ la″ ways″ → Ran n e ends amounts ex la ways amounts″ ex″ la″ ways″
+ran-on a b = record { flowed = flow-on (a .flowed) (b .flowed); rows = λ r. b .rows (a .rows r); long = b .long ∙ a .long }
 
 -- the total lack does not rise
 pub lacks-fall : {n e : ℕ} {ends amounts ex la amounts′ ex′ la′ : List ℕ} → Flowed n e ends amounts ex la amounts′ ex′ la′ → lacks n la′ ≤ lacks n la
@@ -78,32 +92,39 @@ passed-on t f₀ f (onward a i k u v) (fallen b) = fallen (omega (arith, lacks-f
 passed-on t f₀ f (onward a i k u v) (full h l m z) = full h l m z
 passed-on t f₀ f (onward a i k u v) (onward b h l m x) = onward (λ j. b j ∙ a j) h l m x
 
-pub spilled-on :
-    {n e g : ℕ} {ends amounts ex la amounts′ ex′ la′ amounts″ ex″ la″ t : List ℕ} → Spilled n e g ends amounts ex la t amounts′ ex′ la′
-    → Spilled n e g ends amounts′ ex′ la′ t amounts″ ex″ la″ → Spilled n e g ends amounts ex la t amounts″ ex″ la″
-spilled-on none b = b
-spilled-on (some f up x) none = some f up x
-spilled-on {t = t} (some f up x) (some f′ up′ x′) = some (flow-on f f′) (λ k h. omega (arith, up k h, up′ k h)) (passed-on t f f′ x x′)
-
-pub spilled-flowed : {n e g : ℕ} {ends amounts ex la amounts′ ex′ la′ t : List ℕ} → Spilled n e g ends amounts ex la t amounts′ ex′ la′ → Flowed n e ends amounts ex la amounts′ ex′ la′
-spilled-flowed none = flow-none
-spilled-flowed (some f up x) = f
+pub spilled-ran :
+    {n e m end g : ℕ} {ends amounts ex la ways amounts′ ex′ la′ ways′ t : List ℕ} → Spilled n e m end g ends amounts ex la ways t amounts′ ex′ la′ ways′
+    → Ran n e ends amounts ex la ways amounts′ ex′ la′ ways′
+spilled-ran (none dry) = ran-none
+spilled-ran (some r up x) = r
 
 -- ---- along a chain of g, by the end at g; the other end is at 1 - end
 
+-- what link k, at whose other end is q, makes of the state: nothing, since it takes nothing; or something was sent
+data Step (n e k end g q : ℕ) (ends amounts ex la ways t : List ℕ) : List ℕ → List ℕ → List ℕ → List ℕ → Type 0 where
+  stays : (Coming t q → leastFor end ≤ flowing amounts k → ⊥) → Step n e k end g q ends amounts ex la ways t amounts ex la ways
+  goes :
+      {amounts′ ex′ la′ ways′ : List ℕ} → Ran n e ends amounts ex la ways amounts′ ex′ la′ ways′ → Rises g ends amounts amounts′ → Passed n la ex′ la′ t
+      → Step n e k end g q ends amounts ex la ways t amounts′ ex′ la′ ways′
+
 -- the walk along the chain, at link k
-pub record Spilling (n e end g : ℕ) (ends amounts₀ ex₀ la₀ t amounts ex la : List ℕ) (k : ℕ) : Type 0 where
-  pub spilled : Spilled n e g ends amounts₀ ex₀ la₀ t amounts ex la
+pub record Spilling (n e end g : ℕ) (ends amounts₀ ex₀ la₀ ways₀ t amounts ex la ways : List ℕ) (k : ℕ) : Type 0 where
+  pub spilled : Spilled n e k end g ends amounts₀ ex₀ la₀ ways₀ t amounts ex la ways
   pub within : k ≤ e
   pub hit : k < e → endIn ends end k ≡ g
 
-module _ {n e end g : ℕ} {ends head next amounts₀ ex₀ la₀ t : List ℕ} (p : Spillable n e end g ends head next amounts₀ ex₀ la₀ t) where
-  pub spill-begins : Spilling n e end g ends amounts₀ ex₀ la₀ t amounts₀ ex₀ la₀ (getD head g 0)
-  spill-begins = let h = p .index .chains .heads g (p .below) in record { spilled = none; within = h .within; hit = h .hit }
+module _ {n e end g : ℕ} {ends head next amounts₀ ex₀ la₀ ways₀ t : List ℕ} (p : Spillable n e end g ends head next amounts₀ ex₀ la₀ ways₀ t) where
+  pub spill-begins : Spilling n e end g ends amounts₀ ex₀ la₀ ways₀ t amounts₀ ex₀ la₀ ways₀ (getD head g 0)
+  spill-begins =
+      let h = p .index .chains .heads g (p .below) in
+      record { spilled = none (λ pos j l x. h .first j (omega arith) l (x .hit)); within = h .within; hit = h .hit }
 
-  module _ {amounts ex la : List ℕ} {k q : ℕ} (w : Spilling n e end g ends amounts₀ ex₀ la₀ t amounts ex la k) (l : k < e) (z : q ≡ endIn ends (1 - end) k) where
+  module _ {amounts ex la ways : List ℕ} {k q : ℕ} (w : Spilling n e end g ends amounts₀ ex₀ la₀ ways₀ t amounts ex la ways k) (l : k < e) (z : q ≡ endIn ends (1 - end) k) where
     course : Course n e ends amounts ex la
-    course = course-after (p .course) (spilled-flowed (w .spilled))
+    course = course-after (p .course) (spilled-ran (w .spilled) .flowed)
+
+    rows : Rows n e ends amounts ways
+    rows = spilled-ran (w .spilled) .rows (p .rows)
 
     q-below : q < n
     q-below = go (p .which)
@@ -120,57 +141,114 @@ module _ {n e end g : ℕ} {ends head next amounts₀ ex₀ la₀ t : List ℕ} 
         go (inl h) = gives-back (rw h at (w .hit l)) (sym (rw h at z)) (rw h at least)
         go (inr h) = pays (rw h at (w .hit l)) (sym (rw h at z))
 
-    pub spill-offerable : Offerable k g q (leastFor end) ends amounts ex la t
+    pub spill-offerable : Offerable k g q (leastFor end) ends amounts ex la ways t
     spill-offerable =
         record {
           q-within = omega (arith, q-below, p .t-long);
           amount-within = omega (arith, course .amounts-long);
+          link-within = omega (arith, p .course .net .ends-long);
           sendable = λ m least. sendable course l (p .t-long) (way least);
+          notable =
+              record {
+                few = omega (arith, p .course .net .from k l, p .course .net .few-groups);
+                room = omega (arith, p .course .net .to k l, rows .long);
+              };
         }
 
-    pub spill-on : {amounts′ ex′ la′ : List ℕ} → 0 < getD ex g 0 → Offered k g q (leastFor end) ends amounts ex la t amounts′ ex′ la′ → Spilling n e end g ends amounts₀ ex₀ la₀ t amounts′ ex′ la′ (getD next k 0)
+    -- what was sent through the link, and noted
+    took-ran :
+        {amounts′ ex′ la′ ways′ : List ℕ} → Sent n e k ends amounts ex la t amounts′ ex′ la′ g → Noted (endIn ends 0 k) (endIn ends 1 k) (flowing amounts′ k) ways ways′
+        → Ran n e ends amounts ex la ways amounts′ ex′ la′ ways′
+    took-ran x d =
+        record {
+          flowed = x .flowed;
+          rows = λ r. record { right = noted-ways (course .net) (course .no-cycle) (course .once) l (r .long) (x .same) (r .right) d; long = omega (arith, r .long, noted-length d) };
+          long = noted-length d;
+        }
+
+    -- the links before the next one of the chain are those before k, and k
+    pub spill-on :
+        {amounts′ ex′ la′ ways′ : List ℕ} → 0 < getD ex g 0 → Offered k g q (leastFor end) ends amounts ex la ways t amounts′ ex′ la′ ways′
+        → Spilling n e end g ends amounts₀ ex₀ la₀ ways₀ t amounts′ ex′ la′ ways′ (getD next k 0)
     spill-on pos o =
-        let x = p .index .chains .nexts k l in
-        record { spilled = spilled-on (w .spilled) (more o); within = x .within; hit = λ h. x .hit h ∙ w .hit l }
+        record { spilled = go (w .spilled) (step o); within = after .within; hit = λ h. after .hit h ∙ w .hit l }
       where
-        more : {amounts′ ex′ la′ : List ℕ} → Offered k g q (leastFor end) ends amounts ex la t amounts′ ex′ la′ → Spilled n e g ends amounts ex la t amounts′ ex′ la′
-        more kept = none
-        more (took m least s) = let x = sends-sent course l (way least) m s in some (x .flowed) (x .rises) (x .passed pos)
+        after : IsNext e (endIn ends end) (endIn ends end k) (k + 1) (getD next k 0)
+        after = p .index .chains .nexts k l
+
+        -- nobody takes anything before the next link of the chain
+        dry-before :
+            ((j : ℕ) → j < k → Takable end g ends amounts₀ t j → ⊥) → (Coming t q → leastFor end ≤ flowing amounts₀ k → ⊥)
+            → (j : ℕ) → j < getD next k 0 → Takable end g ends amounts₀ t j → ⊥
+        dry-before before here j h x = at (ltb j k) refl (eqb j k) refl
+          where
+            at : (a : Bool) → ltb j k ≡ a → (b : Bool) → eqb j k ≡ b → ⊥
+            at true u b v = before j (ltb-true j k u) x
+            at false u true v =
+                let same : j ≡ k = eqb-true j k v in
+                here (rw z (rw same at (x .coming))) (rw same at (x .least))
+            at false u false v =
+                let other : j ≡ k → ⊥ = eqb-false j k v in
+                after .first j (omega (arith, ltb-false j k u)) h (x .hit ∙ sym (w .hit l))
+
+        step : {amounts′ ex′ la′ ways′ : List ℕ} → Offered k g q (leastFor end) ends amounts ex la ways t amounts′ ex′ la′ ways′ → Step n e k end g q ends amounts ex la ways t amounts′ ex′ la′ ways′
+        step (kept shut) = stays shut
+        step (took m least s d) = let x = sends-sent course l (way least) m s in goes (took-ran x d) (x .rises) (x .passed pos)
+
+        go :
+            {amounts ex la ways amounts′ ex′ la′ ways′ : List ℕ} → Spilled n e k end g ends amounts₀ ex₀ la₀ ways₀ t amounts ex la ways
+            → Step n e k end g q ends amounts ex la ways t amounts′ ex′ la′ ways′
+            → Spilled n e (getD next k 0) end g ends amounts₀ ex₀ la₀ ways₀ t amounts′ ex′ la′ ways′
+        go (none dry) (stays shut) = none (λ pos. dry-before (dry pos) shut)
+        go (none dry) (goes r up x) = some r up x
+        go (some r up x) (stays shut) = some r up x
+        go (some r up x) (goes r′ up′ x′) = some (ran-on r r′) (λ j h. omega (arith, up j h, up′ j h)) (passed-on t (r .flowed) (r′ .flowed) x x′)
+
+  -- it ends with nothing left, or with the last link
+  pub spill-spent : {amounts ex la ways : List ℕ} {k : ℕ} → getD ex g 0 ≡ 0 → Spilling n e end g ends amounts₀ ex₀ la₀ ways₀ t amounts ex la ways k → Spilled n e e end g ends amounts₀ ex₀ la₀ ways₀ t amounts ex la ways
+  spill-spent spent w = go spent (w .spilled)
+    where
+      go : {amounts ex la ways : List ℕ} {k : ℕ} → getD ex g 0 ≡ 0 → Spilled n e k end g ends amounts₀ ex₀ la₀ ways₀ t amounts ex la ways → Spilled n e e end g ends amounts₀ ex₀ la₀ ways₀ t amounts ex la ways
+      go nothing (none dry) = none (λ pos. absurd (omega arith))
+      go nothing (some r up x) = some r up x
+
+  pub spill-done : {amounts ex la ways : List ℕ} {k : ℕ} → e ≤ k → Spilling n e end g ends amounts₀ ex₀ la₀ ways₀ t amounts ex la ways k → Spilled n e e end g ends amounts₀ ex₀ la₀ ways₀ t amounts ex la ways
+  spill-done h w = go h (w .spilled)
+    where
+      go : {amounts ex la ways : List ℕ} {k : ℕ} → e ≤ k → Spilled n e k end g ends amounts₀ ex₀ la₀ ways₀ t amounts ex la ways → Spilled n e e end g ends amounts₀ ex₀ la₀ ways₀ t amounts ex la ways
+      go last (none dry) = none (λ pos j l. dry pos j (omega arith))
+      go last (some r up x) = some r up x
 
 -- ---- the turn
 
-module _ {n e g k : ℕ} {ends fh fn th tn amounts ex la t : List ℕ} (c : Turnable n e g k ends fh fn th tn amounts ex la t) where
-  -- what it sends first has passed, and what it sends then changes nothing of that
+module _ {n e g : ℕ} {ends fh fn th tn amounts ex la ways t : List ℕ} (c : Turnable n e g ends fh fn th tn amounts ex la ways t) where
+  pub turn-forth : Spillable n e 0 g ends fh fn amounts ex la ways t
+  turn-forth = record { course = c .course; rows = c .rows; below = c .below; which = inl refl; index = c .forth; t-long = c .t-long }
+
+  module _ {amounts′ ex′ la′ ways′ : List ℕ} (first : Spilled n e e 0 g ends amounts ex la ways t amounts′ ex′ la′ ways′) where
+    pub turn-back : Spillable n e 1 g ends th tn amounts′ ex′ la′ ways′ t
+    turn-back =
+        let r = spilled-ran first in
+        record { course = course-after (c .course) (r .flowed); rows = r .rows (c .rows); below = c .below; which = inr refl; index = c .back; t-long = c .t-long }
+
+  -- The link through which it can pay is one of the two chains, so something was sent.
   pub turn-sent :
-      {amounts′ ex′ la′ amounts″ ex″ la″ : List ℕ} → 0 < getD ex g 0 → Sends k g ends amounts ex la t amounts′ ex′ la′ → Spilled n e g ends amounts′ ex′ la′ t amounts″ ex″ la″
-      → Turned n e g ends amounts ex la t amounts″ ex″ la″ 1
-  turn-sent {amounts′} {ex′} {la′} pos s then = go then
+      {amounts′ ex′ la′ ways′ amounts″ ex″ la″ ways″ : List ℕ} → 0 < getD ex g 0 → Spilled n e e 0 g ends amounts ex la ways t amounts′ ex′ la′ ways′
+      → Spilled n e e 1 g ends amounts′ ex′ la′ ways′ t amounts″ ex″ la″ ways″ → Turned n e g ends amounts ex la ways t amounts″ ex″ la″ ways″ 1
+  turn-sent pos (none dry) (none dry′) = absurd (go (c .way))
     where
-      first : Sent n e ends amounts ex la t amounts′ ex′ la′ g
-      first = sends-sent (c .course) (c .link) (c .way) (c .mark) s
+      go : Way (copied n e ends) (flowing amounts) (c .k) g (c .p) → ⊥
+      go (pays to from) = dry′ pos (c .k) (c .link) (record { hit = to; coming = rw from (c .mark); least = omega arith })
+      go (gives-back from to has) = dry pos (c .k) (c .link) (record { hit = from; coming = rw to (c .mark); least = omega arith })
+  turn-sent pos (none dry) (some r up x) = sent r up x
+  turn-sent pos (some r up x) (none dry) = sent r up x
+  turn-sent pos (some r up x) (some r′ up′ x′) = sent (ran-on r r′) (λ j h. omega (arith, up j h, up′ j h)) (passed-on t (r .flowed) (r′ .flowed) x x′)
 
-      passed : Passed n la ex′ la′ t
-      passed = first .passed pos
-
-      go : {amounts″ ex″ la″ : List ℕ} → Spilled n e g ends amounts′ ex′ la′ t amounts″ ex″ la″ → Turned n e g ends amounts ex la t amounts″ ex″ la″ 1
-      go none = sent (first .flowed) (first .rises) passed
-      go (some f up x) = sent (flow-on (first .flowed) f) (λ j h. omega (arith, first .rises j h, up j h)) (passed-on t (first .flowed) f passed x)
-
-pub turned-one : {n e g r : ℕ} {ends amounts ex la t amounts′ ex′ la′ : List ℕ} → Turned n e g ends amounts ex la t amounts′ ex′ la′ r → r ≤ 1
+pub turned-one : {n e g r : ℕ} {ends amounts ex la ways t amounts′ ex′ la′ ways′ : List ℕ} → Turned n e g ends amounts ex la ways t amounts′ ex′ la′ ways′ r → r ≤ 1
 turned-one (rests z) = omega arith
 turned-one (sent f up passed) = omega arith
 
-pub turned-flowed : {n e g r : ℕ} {ends amounts ex la t amounts′ ex′ la′ : List ℕ} → Turned n e g ends amounts ex la t amounts′ ex′ la′ r → Flowed n e ends amounts ex la amounts′ ex′ la′
-turned-flowed (rests z) = flow-none
-turned-flowed (sent f up passed) = f
-
--- ---- between two steps of a turn
-
-pub spill-after :
-    {n e g : ℕ} {ends amounts ex la t amounts′ ex′ la′ : List ℕ} → Course n e ends amounts ex la → Spilled n e g ends amounts ex la t amounts′ ex′ la′ → Course n e ends amounts′ ex′ la′
-spill-after c s = course-after c (spilled-flowed s)
-
-pub turn-after :
-    {n e g k : ℕ} {ends fh fn th tn amounts ex la t amounts′ ex′ la′ : List ℕ} → Turnable n e g k ends fh fn th tn amounts ex la t → Sends k g ends amounts ex la t amounts′ ex′ la′
-    → Course n e ends amounts′ ex′ la′
-turn-after c s = course-after (c .course) (sends-sent (c .course) (c .link) (c .way) (c .mark) s .flowed)
+pub turned-ran :
+    {n e g r : ℕ} {ends amounts ex la ways t amounts′ ex′ la′ ways′ : List ℕ} → Turned n e g ends amounts ex la ways t amounts′ ex′ la′ ways′ r → Ran n e ends amounts ex la ways amounts′ ex′ la′ ways′
+turned-ran (rests z) = ran-none
+turned-ran (sent f up passed) = f

@@ -4,7 +4,7 @@ use native.Mathlib.Omega.{arith}
 use mathlib.Core.Path.{_≡_, refl, sym, ap, _∙_}
 use mathlib.Core.Bool.{Bool, true, false, not}
 use mathlib.Core.List.{List}
-use lib.ListN.{getD, replicate, getD-replicate, length-replicate}
+use lib.ListN.{length, getD, replicate, getD-replicate, length-replicate}
 use lib.Seq.{ext-getD}
 use lib.Dec.{eqb, ltb}
 use borrow.Author.Tests.{ltb-true, ltb-false}
@@ -20,13 +20,13 @@ use Rattle.survey.proofs.SameSets.{heaviest-same}
 use Rattle.survey.proofs.Unique as unique
 use Rattle.survey.proofs.Draining.{Drains, drained-heaviest}
 use Rattle.flow.specs.Links.{Given, bare}
-use Rattle.flow.specs.Copies.{endIn, copied, flowing, Copyable, Copied, Puttable, Put}
+use Rattle.flow.specs.Copies.{endIn, copied, flowing, Copyable, Copy, Copied, Puttable, Put}
 use Rattle.flow.specs.Drains.{Net}
-use Rattle.flow.specs.Sends.{Balanced}
-use Rattle.flow.specs.Waves.{unmarked, WavesAsk, WavedAll}
+use Rattle.flow.specs.Sends.{Balanced, Course}
+use Rattle.flow.specs.Waves.{unmarked, SettleAsk, Settled}
 use Rattle.flow.specs.Heavy.{Halved, Flipped, Weighed, Weighable, Proves, Heavy}
 use Rattle.flow.proofs.LinkLaws.{bare-given, given-from, given-to, given-below}
-use Rattle.flow.proofs.CopyLaws.{Alike, given-alike, alike-least, alike-balanced, alike-no-cycle, net-copyable, net-copy, forth-copy, back-copy}
+use Rattle.flow.proofs.CopyLaws.{Alike, given-alike, alike-least, alike-balanced, alike-no-cycle, net-copyable, net-copy}
 use Rattle.flow.proofs.DrainLaws.{bits-one, least-drains}
 use Rattle.flow.proofs.SafeLaws.{amount-small}
 use Rattle.flow.proofs.FlowLaws.{course-after}
@@ -84,44 +84,48 @@ blankEnds = replicate (2 * linkLimit) 0
 abbrev blankAmounts : List ℕ
 blankAmounts = replicate linkLimit 0
 
-pub heavy-copyable : {n e : ℕ} {links fh fn th tn plus minus marks amounts : List ℕ} → Weighable n e links fh fn th tn plus minus marks amounts → Copyable e links blankEnds
+pub heavy-copyable : {n e : ℕ} {links plus minus marks amounts : List ℕ} → Weighable n e links plus minus marks amounts → Copyable e links blankEnds
 heavy-copyable c = net-copyable (c .net) (omega (arith, c .net .few-links, length-replicate {A = ℕ} (2 * linkLimit) 0))
 
-module _ {n e : ℕ} {links fh fn th tn plus minus marks amounts ends p m : List ℕ} (c : Weighable n e links fh fn th tn plus minus marks amounts) (o : Copied e links blankEnds ends) (h : Halved n plus minus p m) where
+module _ {n e : ℕ} {links plus minus marks amounts ends p m : List ℕ} (c : Weighable n e links plus minus marks amounts) (o : Copied e links blankEnds ends) (h : Halved n plus minus p m) where
   none-yet : (k : ℕ) → k < e → getD blankAmounts k 0 ≡ 0
   none-yet k l = getD-replicate linkLimit k 0 0 (omega (arith, c .net .few-links))
 
-  pub heavy-ask : WavesAsk n e ends fh fn th tn blankAmounts p m marks
+  heavy-copy : Copy n e ends
+  heavy-copy = net-copy o (c .net) (heavy-copyable c .ends-long)
+
+  amounts-long : e ≤ length blankAmounts
+  amounts-long = omega (arith, c .net .few-links, length-replicate {A = ℕ} linkLimit 0)
+
+  heavy-course : Course n e ends blankAmounts p m
   unfolding total
-  heavy-ask =
+  heavy-course =
       record {
-        course =
+        net = heavy-copy;
+        no-cycle = alike-no-cycle {x = λ k. 0} (given-alike (bare-given n e links) o (λ k l. refl)) (c .no-cycle);
+        once = λ j k a b f t. c .once j k a b (sym (o .from j a) ∙ f ∙ o .from k b) (sym (o .to j a) ∙ t ∙ o .to k b);
+        amounts-long = amounts-long;
+        ex-long = omega (arith, h .plus-long, c .plus-long);
+        la-long = omega (arith, h .minus-long, c .minus-long);
+        safe =
             record {
-              net = net-copy o (c .net) (heavy-copyable c .ends-long);
-              no-cycle = alike-no-cycle {x = λ k. 0} (given-alike (bare-given n e links) o (λ k l. refl)) (c .no-cycle);
-              amounts-long = omega (arith, c .net .few-links, length-replicate {A = ℕ} linkLimit 0);
-              ex-long = omega (arith, h .plus-long, c .plus-long);
-              la-long = omega (arith, h .minus-long, c .minus-long);
-              safe =
-                  record {
-                    weights = listed plus minus;
-                    balanced = none-balanced ends none-yet h (listed-weighed plus minus);
-                    lean = λ g l. omega (arith, h .below g l);
-                    small = c .small;
-                  };
+              weights = listed plus minus;
+              balanced = none-balanced ends none-yet h (listed-weighed plus minus);
+              lean = λ g l. omega (arith, h .below g l);
+              small = c .small;
             };
-        forth = forth-copy o (c .forth);
-        back = back-copy o (c .back);
-        t-long = c .marks-long;
       }
+
+  pub heavy-ask : SettleAsk n e ends blankAmounts p m marks
+  heavy-ask = record { course = heavy-course; t-long = c .marks-long }
 
   -- ---- what ends it
 
-  pub heavy-puttable : {p′ m′ t a′ : List ℕ} → WavedAll n e ends blankAmounts p m marks a′ p′ m′ t → Puttable e a′ amounts
+  pub heavy-puttable : {p′ m′ t a′ : List ℕ} → Settled n e ends blankAmounts p m marks a′ p′ m′ t → Puttable e a′ amounts
   heavy-puttable w =
-      record { few = c .net .few-links; long = course-after (heavy-ask .course) (w .waved .flowed) .amounts-long; room = c .amounts-long }
+      record { few = c .net .few-links; long = course-after heavy-course (w .flowed) .amounts-long; room = c .amounts-long }
 
-  module _ {p′ m′ t a′ marks′ amounts′ : List ℕ} (w : WavedAll n e ends blankAmounts p m marks a′ p′ m′ t) (x : Flipped n t marks′) (y : Put e a′ amounts amounts′) where
+  module _ {p′ m′ t a′ marks′ amounts′ : List ℕ} (w : Settled n e ends blankAmounts p m marks a′ p′ m′ t) (x : Flipped n t marks′) (y : Put e a′ amounts amounts′) where
     -- the marks are those of the groups that don't drain
     flips : (g : ℕ) → g < n → outside (unmarked t) g ≡ outside (markedSet marks′) g
     flips g l = rw (x .at g l) (at (eqb (getD t g 0) 0))
@@ -146,7 +150,7 @@ module _ {n e : ℕ} {links fh fn th tn plus minus marks amounts ends p m : List
         alike = given-alike given o (y .at)
 
         balanced : Balanced s v (amountsOf amounts′) p′ m′
-        balanced = alike-balanced alike (w .waved .flowed .keeps v (none-balanced ends none-yet h weighed))
+        balanced = alike-balanced alike (w .flowed .keeps v (none-balanced ends none-yet h weighed))
 
         drains : Drains s v (amountsOf amounts′) (outside (markedSet marks′))
         drains =
@@ -166,15 +170,15 @@ module _ {n e : ℕ} {links fh fn th tn plus minus marks amounts ends p m : List
     heavy-law =
         record {
           proves = proves;
-          small = λ k l. rw (y .at k l) (amount-small (course-after (heavy-ask .course) (w .waved .flowed)) k l);
+          small = λ k l. rw (y .at k l) (amount-small (course-after heavy-course (w .flowed)) k l);
           bits = λ g l. rw (x .at g l) (bit (eqb (getD t g 0) 0));
-          plus-rest = λ g l. w .waved .flowed .ex-rest g l ∙ h .plus-rest g l;
-          minus-rest = λ g l. w .waved .flowed .la-rest g l ∙ h .minus-rest g l;
-          marks-rest = λ g l. x .rest g l ∙ w .waved .rest g l;
+          plus-rest = λ g l. w .flowed .ex-rest g l ∙ h .plus-rest g l;
+          minus-rest = λ g l. w .flowed .la-rest g l ∙ h .minus-rest g l;
+          marks-rest = λ g l. x .rest g l ∙ w .rest g l;
           amounts-rest = y .rest;
-          plus-long = w .waved .flowed .ex-long ∙ h .plus-long;
-          minus-long = w .waved .flowed .la-long ∙ h .minus-long;
-          marks-long = x .long ∙ w .waved .long;
+          plus-long = w .flowed .ex-long ∙ h .plus-long;
+          minus-long = w .flowed .la-long ∙ h .minus-long;
+          marks-long = x .long ∙ w .long;
           amounts-long = y .long;
         }
       where

@@ -1,16 +1,20 @@
--- Laws of joining: one group more in the order.
-use Prim.Native.Nat.{ℕ, _+_, _-_, _<_, _≤_}
+-- Laws of joining: one group more in the order, the groups of a word, and those that begin it.
+use Prim.Native.Nat.{ℕ, _+_, _-_, _*_, _^_, _<_, _≤_}
 use mathlib.Core.Path.{_≡_, refl, sym, ap, _∙_}
 use mathlib.Core.List.{List}
 use mathlib.Core.Bool.{Bool, true, false}
 use native.Mathlib.Omega.{arith}
+use native.Mathlib.Decide.{ℕ-discrete}
+use lib.Count.{trailingZeros}
 use lib.ListN.{length, getD, set, length-set}
 use lib.Seq.{getD-set-same, getD-set-other, set-set}
 use lib.Dec.{eqb}
 use borrow.Author.Tests.{eqb-true, eqb-false}
 use Rattle.survey.specs.Sets.{sum}
 use Rattle.survey.proofs.Sums.{sum-cong, term-le}
-use Rattle.flow.specs.Drains.{Placed, Begun, Begins, lacking, level}
+use Rattle.bits.specs.Bits.{digit, without}
+use Rattle.bits.proofs.BitLaws.{digit-bound, zero-digit, lowest-digit, without-same, without-other, without-less}
+use Rattle.flow.specs.Drains.{Placed, Joinable, Joined, Begun, Begins, lacking, level}
 use Rattle.flow.proofs.SumLaws.{sum-more, sum-change}
 
 -- ---- a list with one place set
@@ -35,14 +39,14 @@ placed-room {n} {c} {t} p g l z = omega (arith, p .count, term-le n (λ h. 1 - g
 
 module _ {n c g : ℕ} {t order : List ℕ} (p : Placed n t order c) (l : g < n) (z : getD t g 0 ≡ 0) (here : g < length t) (room : c < length order) where
   -- who had joined stands where it stood
-  pub kept-order : (i : ℕ) → i < c → getD (set order c g) i 0 ≡ getD order i 0
+  kept-order : (i : ℕ) → i < c → getD (set order c g) i 0 ≡ getD order i 0
   kept-order i h = getD-set-other order c i g 0 (λ q. omega arith)
 
   -- it is at the new place
-  pub new-order : getD (set order c g) c 0 ≡ g
+  new-order : getD (set order c g) c 0 ≡ g
   new-order = getD-set-same order c g 0 room
 
-  pub kept-marks : (h : ℕ) → getD t h 0 ≡ 1 → getD (set t g 1) h 0 ≡ 1
+  kept-marks : (h : ℕ) → getD t h 0 ≡ 1 → getD (set t g 1) h 0 ≡ 1
   kept-marks = set-by t g 1 (λ h v. getD t h 0 ≡ 1 → v ≡ 1) here (λ q. refl) (λ j d q. q)
 
   pub joined-placed : Placed n (set t g 1) (set order c g) (c + 1)
@@ -80,20 +84,109 @@ module _ {n c g : ℕ} {t order : List ℕ} (p : Placed n t order c) (l : g < n)
           sum-change n (λ h. 1 - getD t h 0) (λ h. 1 - getD (set t g 1) h 0) g 1 l
           (λ i k d. rw (getD-set-other t g i 1 0 d)) (rw (new-mark, z))
 
--- what stands at the free place counts for nothing
-pub free-placed : {n c : ℕ} {t order : List ℕ} (g : ℕ) → Placed n t order c → Placed n t (set order c g) c
-free-placed {n} {c} {t} {order} g p =
-    record {
-      group = λ i h. rw (kept i h) (p .group i h);
-      marked = λ i h. rw (kept i h) (p .marked i h);
-      once = λ i j h k same. p .once i j h k (sym (kept i (omega arith)) ∙ same ∙ kept j k);
-      cover = λ h k m. let f = p .cover h k m in (f .0, f .1, kept (f .0) (f .1) ∙ f .2);
-      bits = p .bits;
-      count = p .count;
-    }
-  where
-    kept : (i : ℕ) → i < c → getD (set order c g) i 0 ≡ getD order i 0
-    kept i h = getD-set-other order c i g 0 (λ q. omega arith)
+-- ---- the groups of a word join, one by one
+
+-- where that stands: of the groups of word w some have joined, and the others are those of the word `left`
+pub record Joining (n half w : ℕ) (t order : List ℕ) (c : ℕ) (t′ order′ : List ℕ) (c′ left : ℕ) : Type 0 where
+  pub placed : Placed n t′ order′ c′
+  pub more : c ≤ c′
+  pub order-same : (i : ℕ) → i < c → getD order′ i 0 ≡ getD order i 0
+  pub new : (j : ℕ) → c ≤ j → j < c′ → (i : ℕ) × (i < 64) × (getD order′ j 0 ≡ 64 * half + i) × (digit w i ≡ 1)
+  pub here : (i : ℕ) → i < 64 → getD t′ (64 * half + i) 0 + digit left i ≡ getD t (64 * half + i) 0 + digit w i
+  pub part : (i : ℕ) → digit left i ≤ digit w i
+  pub small : left < 2 ^ 64
+  pub else : (g : ℕ) → ((i : ℕ) → i < 64 → g ≡ 64 * half + i → ⊥) → getD t′ g 0 ≡ getD t g 0
+  pub t-long : length t′ ≡ length t
+  pub order-long : length order′ ≡ length order
+
+module _ {n half w c₀ : ℕ} {t₀ order₀ : List ℕ} (p : Joinable n half w t₀ order₀ c₀) where
+  pub joining-begins : w < 2 ^ 64 → Joining n half w t₀ order₀ c₀ t₀ order₀ c₀ w
+  joining-begins small =
+      record {
+        placed = p .placed;
+        more = omega arith;
+        order-same = λ i h. refl;
+        new = λ j h k. absurd (omega arith);
+        here = λ i h. refl;
+        part = λ i. omega arith;
+        small = small;
+        else = λ g d. refl;
+        t-long = refl;
+        order-long = refl;
+      }
+
+  module _ {c left : ℕ} {t order : List ℕ} (s : Joining n half w t₀ order₀ c₀ t order c left) where
+    pub joining-done : left ≡ 0 → Joined n half w t₀ order₀ c₀ t order c
+    joining-done z =
+        record {
+          placed = s .placed;
+          more = s .more;
+          order-same = s .order-same;
+          new = s .new;
+          here = λ i h. let none : digit left i ≡ 0 = ap (λ (x : ℕ). digit x i) z ∙ zero-digit i in omega (arith, s .here i h, none);
+          else = s .else;
+          t-long = s .t-long;
+          order-long = s .order-long;
+        }
+
+    -- i is the lowest of those that are left: it is one of the word, and has not joined
+    module _ {i : ℕ} (some : left ≡ 0 → ⊥) (low : i ≡ trailingZeros 64 left) where
+      pub left-below : i < 64
+      left-below = omega (arith, low, lowest-digit left (omega arith) (s .small) .1)
+
+      left-digit : digit left i ≡ 1
+      left-digit = ap (λ (x : ℕ). digit left x) low ∙ lowest-digit left (omega arith) (s .small) .0
+
+      pub left-less : without left i < left
+      left-less = without-less left i left-digit
+
+      had : digit w i ≡ 1
+      had = omega (arith, s .part i, digit-bound w i, left-digit)
+
+      pub left-group : 64 * half + i < n
+      left-group = p .fresh i left-below had .0
+
+      pub left-fresh : getD t (64 * half + i) 0 ≡ 0
+      left-fresh = omega (arith, s .here i left-below, p .fresh i left-below had .1, had, left-digit)
+
+      pub left-room : c < n
+      left-room = placed-room (s .placed) (64 * half + i) left-group left-fresh
+
+      pub left-here : 64 * half + i < length t
+      left-here = omega (arith, left-group, p .t-long, s .t-long)
+
+      pub left-place : c < length order
+      left-place = omega (arith, left-room, p .order-long, s .order-long)
+
+      pub joining-on : Joining n half w t₀ order₀ c₀ (set t (64 * half + i) 1) (set order c (64 * half + i)) (c + 1) (without left i)
+      joining-on =
+          record {
+            placed = joined-placed (s .placed) left-group left-fresh left-here left-place;
+            more = omega (arith, s .more);
+            order-same = λ j h. getD-set-other order c j (64 * half + i) 0 (λ q. omega (arith, s .more)) ∙ s .order-same j h;
+            new =
+                λ j.
+                set-by order c (64 * half + i) (λ j v. c₀ ≤ j → j < c + 1 → (k : ℕ) × (k < 64) × (v ≡ 64 * half + k) × (digit w k ≡ 1)) left-place
+                (λ h k. (i, left-below, refl, had)) (λ j e h k. s .new j h (omega arith)) j;
+            here = λ j h. now j h (ℕ-discrete j i);
+            part = λ j. fewer j (ℕ-discrete j i);
+            small = omega (arith, left-less, s .small);
+            else = λ g e. getD-set-other t (64 * half + i) g 1 0 (e i left-below) ∙ s .else g e;
+            t-long = simp length-set (s .t-long);
+            order-long = simp length-set (s .order-long);
+          }
+        where
+          now :
+              (j : ℕ) → j < 64 → Dec (j ≡ i)
+              → getD (set t (64 * half + i) 1) (64 * half + j) 0 + digit (without left i) j ≡ getD t₀ (64 * half + j) 0 + digit w j
+          now j h (yes e) =
+              rw e (omega (arith, getD-set-same t (64 * half + i) 1 0 left-here, without-same left i, s .here i left-below, left-fresh, left-digit))
+          now j h (no e) =
+              omega (arith, getD-set-other t (64 * half + i) (64 * half + j) 1 0 (λ q. e (omega arith)), without-other left i j e, s .here j h)
+
+          fewer : (j : ℕ) → Dec (j ≡ i) → digit (without left i) j ≤ digit w j
+          fewer j (yes e) = rw e (omega (arith, without-same left i))
+          fewer j (no e) = omega (arith, without-other left i j e, s .part j)
 
 -- ---- the groups that begin it, one after the other
 

@@ -5,6 +5,8 @@ pub mod LinkLaws
 pub mod ChainLaws
 -- The working copy of the links and amounts.
 pub mod CopyLaws
+-- Ways as rows of bits.
+pub mod WayLaws
 -- The set that drains.
 pub mod JoinLaws
 pub mod GrowLaws

@@ -18,7 +18,7 @@ use Rattle.survey.proofs.Cycles.{Ranking, no-cycle-ranking}
 use Rattle.survey.proofs.SumOrder.{sum-lt}
 use Rattle.survey.proofs.BalanceLaw.{lack}
 use Rattle.flow.specs.Copies.{endIn, copied, flowing, Copy}
-use Rattle.flow.specs.Drains.{Way, pays, gives-back}
+use Rattle.flow.specs.Ways.{Way, pays, gives-back}
 use Rattle.flow.specs.Sends.{Course, Movable, Moves, Takes, capped, free, End, Sendable, TakenBy, Sends, paid, gave}
 use Rattle.flow.specs.Waves.{Flowed, Coming, Passed, fallen, full, onward}
 use Rattle.flow.proofs.BoundLaws.{amount-bound, excess-bound}
@@ -131,9 +131,11 @@ module _ {n e : ℕ} {ends amounts ex la : List ℕ} (c : Course n e ends amount
 
 -- ---- what a send leaves
 
--- the send of g to p, which is still to come: no amount falls but on a link from g; and where there was something to send it has passed
-pub record Sent (n e : ℕ) (ends amounts ex la t amounts′ ex′ la′ : List ℕ) (g : ℕ) : Type 0 where
+-- the send of g to p, which is still to come, through link k: no other amount changes, and none falls but on a link from g; and where there was
+-- something to send it has passed
+pub record Sent (n e k : ℕ) (ends amounts ex la t amounts′ ex′ la′ : List ℕ) (g : ℕ) : Type 0 where
   pub flowed : Flowed n e ends amounts ex la amounts′ ex′ la′
+  pub same : (i : ℕ) → (i ≡ k → ⊥) → flowing amounts′ i ≡ flowing amounts i
   pub rises : (i : ℕ) → (endIn ends 0 i ≡ g → ⊥) → flowing amounts i ≤ flowing amounts′ i
   pub passed : 0 < getD ex g 0 → Passed n la ex′ la′ t
 
@@ -200,10 +202,11 @@ module _ {n e k g p d y : ℕ} {ends amounts ex la amounts′ ex′ la′ : List
 
 pub sends-sent :
     {n e k g p : ℕ} {ends amounts ex la t amounts′ ex′ la′ : List ℕ} → Course n e ends amounts ex la → k < e → Way (copied n e ends) (flowing amounts) k g p → Coming t p
-    → Sends k g ends amounts ex la t amounts′ ex′ la′ → Sent n e ends amounts ex la t amounts′ ex′ la′ g
+    → Sends k g ends amounts ex la t amounts′ ex′ la′ → Sent n e k ends amounts ex la t amounts′ ex′ la′ g
 sends-sent {n} {e} {k} {g} {p} {ends} {amounts} {ex} {la} {t} {amounts′} {ex′} {la′} c l (pays to from) mark (paid z d takes moves) =
     record {
       flowed = moves-flowed c l m other gn pn (most-taken takes) (λ w. paid-shifts w l other to from raised);
+      same = raised .else;
       rises = λ i h. up i (eqb i k) refl;
       passed = λ pos. moves-passed c l m other gn pn (most-taken takes) t mark pos (rw from at takes);
     }
@@ -235,6 +238,7 @@ sends-sent {k = k} c l (gives-back from to has) mark (paid z d takes moves) = ab
 sends-sent {n} {e} {k} {g} {p} {ends} {amounts} {ex} {la} {t} {amounts′} {ex′} {la′} c l (gives-back from to has) mark (gave not-to most d low takes moves) =
     record {
       flowed = moves-flowed c l m other gn pn first (λ w. gave-shifts w l other from to lowered);
+      same = old-amount c l m other gn pn first;
       rises = λ i h. up i h (eqb i k) refl;
       passed = λ pos. moves-passed c l m other gn pn first t mark (some pos has (low .one)) (rw to at takes);
     }

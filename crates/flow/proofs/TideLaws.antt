@@ -1,10 +1,11 @@
 -- Laws of a whole wave: what has grown can be gone back through; and where nobody sent, the set that drains is dry.
-use Prim.Native.Nat.{ℕ, _≤_, _<_}
+use Prim.Native.Nat.{ℕ, _*_, _≤_, _<_}
 use native.Mathlib.Omega.{arith}
 use mathlib.Core.Path.{_≡_, refl, sym, _∙_}
 use mathlib.Core.Bool.{Bool, true, false, not}
+use mathlib.Core.Logic.{_⊎_, inl, inr}
 use mathlib.Core.List.{List}
-use lib.ListN.{getD}
+use lib.ListN.{length, getD}
 use lib.Dec.{eqb, ltb}
 use borrow.Author.Tests.{eqb-true, eqb-false, ltb-true, ltb-false}
 use Rattle.survey.specs.Survey.{Survey}
@@ -12,14 +13,16 @@ use Rattle.survey.specs.Sets.{Set, Same, outside}
 use Rattle.survey.specs.Balance.{Amounts}
 use Rattle.survey.specs.Words.{markedSet}
 use Rattle.survey.proofs.Reaching.{Inside}
-use Rattle.flow.specs.Copies.{copied, flowing}
+use Rattle.flow.specs.Copies.{endIn, copied, flowing}
+use Rattle.flow.specs.Chains.{Chainable, Chained}
+use Rattle.flow.specs.Ways.{WaysFound}
 use Rattle.flow.specs.Drains.{Growable, Begun, Grown, Least}
-use Rattle.flow.specs.Waves.{unmarked, Remarked, Apartable, SetApart, Pourable, Still, Poured, WavesAsk, Wavable, Dry, Waved, WavedOnce}
+use Rattle.flow.specs.Waves.{unmarked, Remarked, Apartable, SetApart, Pourable, Still, Poured, WavesAsk, Wavable, Dry, Waved, WavedOnce, WavedAll, SettleAsk, Settled}
 use Rattle.flow.proofs.JoinLaws.{placed-most}
-use Rattle.flow.proofs.DrainLaws.{grown-least}
+use Rattle.flow.proofs.DrainLaws.{ways-growable, grown-hops, grown-least}
 use Rattle.flow.proofs.SafeLaws.{net-inside}
 use Rattle.flow.proofs.ApartLaws.{apart-coming, apart-remarked, apart-ahead, apart-began}
-use Rattle.flow.proofs.FlowLaws.{flow-none, flow-on, course-after, lack-no-excess}
+use Rattle.flow.proofs.FlowLaws.{ran-none, ran-on, course-after, lack-no-excess}
 
 -- The least set is one as far as the survey's groups go.
 pub least-same : {s : Survey} {x : Amounts} {la : ℕ → ℕ} {T T′ : Set} → Inside s → Same s T T′ → Least s x la T → Least s x la T′
@@ -49,24 +52,13 @@ bit {u} h = go (eqb u 1) refl
         let none : u ≡ 0 = omega arith in
         rw none
 
-module _ {n e c : ℕ} {ends fh fn th tn amounts ex la t₀ order₀ by₀ t₁ order₁ : List ℕ} (p : Wavable n e ends fh fn th tn amounts ex la t₀ order₀ by₀) (b : Begun n la t₀ order₀ t₁ order₁ c) where
-  pub wave-growable : Growable n e ends amounts fh fn th tn t₁ order₁ by₀ c
+module _ {n e c : ℕ} {ends fh fn th tn amounts ex la ways t₀ order₀ t₁ order₁ : List ℕ} (p : Wavable n e ends fh fn th tn amounts ex la ways t₀ order₀) (b : Begun n la t₀ order₀ t₁ order₁ c) where
+  pub wave-growable : Growable n ways t₁ order₁ c
   wave-growable =
-      record {
-        net = p .ask .course .net;
-        amounts-long = p .ask .course .amounts-long;
-        forth = p .ask .forth;
-        back = p .ask .back;
-        room =
-            record {
-              t-long = omega (arith, b .t-long, p .ask .t-long);
-              order-long = omega (arith, b .order-long, p .order-long);
-              by-long = p .by-long;
-            };
-        placed = b .placed;
-      }
+      ways-growable (p .ask .course .net) (p .ask .rows .right) (p .ask .rows .long) (b .placed) (omega (arith, b .t-long, p .ask .t-long))
+      (omega (arith, b .order-long, p .order-long))
 
-  module _ {t₂ order₂ by₂ : List ℕ} {c′ : ℕ} (w : Grown (copied n e ends) (flowing amounts) t₁ order₁ by₀ c t₂ order₂ by₂ c′) where
+  module _ {t₂ order₂ : List ℕ} {c′ : ℕ} (w : Grown n ways t₁ order₁ c t₂ order₂ c′) where
     starts : (j : ℕ) → j < c → 0 < getD la (getD order₂ j 0) 0
     starts j h = rw (w .grew .order-same j h) (b .starts j h)
 
@@ -79,10 +71,11 @@ module _ {n e c : ℕ} {ends fh fn th tn amounts ex la t₀ order₀ by₀ t₁ 
           within = λ i h. omega (arith, w .grew .placed .group i (omega (arith, w .grew .more)), b .t-long, w .grew .t-long, p .ask .t-long);
         }
 
-    pub wave-pourable : {t : List ℕ} → SetApart t₂ order₂ c t → Pourable n e ends fh fn th tn amounts ex la t order₂ by₂ c c′
+    pub wave-pourable : {t : List ℕ} → SetApart t₂ order₂ c t → Pourable n e ends fh fn th tn amounts ex la ways t order₂ c c′
     wave-pourable a =
         record {
           course = p .ask .course;
+          rows = p .ask .rows;
           forth = p .ask .forth;
           back = p .ask .back;
           more = w .grew .more;
@@ -90,16 +83,15 @@ module _ {n e c : ℕ} {ends fh fn th tn amounts ex la t₀ order₀ by₀ t₁ 
           group = w .grew .placed .group;
           once = w .grew .placed .once;
           starts = starts;
-          hops = w .grew .hops;
+          hops = grown-hops (p .ask .rows .right) (p .ask .course .net .few-groups) w;
           began = apart-began (w .grew .placed) (w .grew .more) a la starts;
           marked = apart-coming (w .grew .placed) (w .grew .more) a;
           ahead = apart-ahead (w .grew .placed) (w .grew .more) a;
           t-long = omega (arith, a .long, b .t-long, w .grew .t-long, p .ask .t-long);
           order-long = omega (arith, b .order-long, w .grew .order-long, p .order-long);
-          by-long = omega (arith, w .grew .by-long, p .by-long);
         }
 
-    module _ {amounts′ ex′ la′ t t₃ : List ℕ} {r : ℕ} (a : SetApart t₂ order₂ c t) (v : Poured n e ends amounts ex la t order₂ c c′ amounts′ ex′ la′ t₃ r) where
+    module _ {amounts′ ex′ la′ ways′ t t₃ : List ℕ} {r : ℕ} (a : SetApart t₂ order₂ c t) (v : Poured n e ends amounts ex la ways t order₂ c c′ amounts′ ex′ la′ ways′ t₃ r) where
       remarked : Remarked n t₂ t₃
       remarked = remarked-on (apart-remarked (w .grew .placed) (w .grew .more) a) (v .remarked)
 
@@ -109,7 +101,7 @@ module _ {n e c : ℕ} {ends fh fn th tn amounts ex la t₀ order₀ by₀ t₁ 
       dry : Still amounts ex la order₂ c c′ amounts′ ex′ la′ → Dry n e ends amounts ex la t₃
       dry s =
           record {
-            least = least-same (net-inside (p .ask .course .net)) (record { at = drains }) (grown-least ends b w);
+            least = least-same (net-inside (p .ask .course .net)) (record { at = drains }) (grown-least b (p .ask .rows .right) (p .ask .course .net) w);
             dry = λ g l m. none g l (eqb-true (getD t₂ g 0) 1 (drains g l ∙ m));
           }
         where
@@ -120,33 +112,77 @@ module _ {n e c : ℕ} {ends fh fn th tn amounts ex la t₀ order₀ by₀ t₁ 
               go j k true q = lack-no-excess (p .ask .course) (getD order₂ j 0) (w .grew .placed .group j k) (starts j (ltb-true j c q))
               go j k false q = s .dry j (ltb-false j c q) k
 
-      pub wave-once : WavedOnce n e ends amounts ex la t₀ order₀ by₀ amounts′ ex′ la′ t₃ order₂ by₂ r
+      pub wave-once : WavedOnce n e ends amounts ex la ways t₀ order₀ amounts′ ex′ la′ ways′ t₃ order₂ r
       wave-once =
           record {
             waved =
                 record {
-                  flowed = v .flowed;
+                  ran = v .ran;
                   rest = λ g h. remarked .rest g h ∙ w .grew .rest g h ∙ b .rest g h;
                   long = remarked .long ∙ w .grew .t-long ∙ b .t-long;
                 };
             order-long = w .grew .order-long ∙ b .order-long;
-            by-long = w .grew .by-long;
             done = λ z. let s = v .still z in rw (s .amounts-same, s .ex-same, s .la-same) (dry s);
             fell = v .fell;
           }
 
 -- ---- wave after wave
 
-pub waved-none : {n e : ℕ} {ends amounts ex la t : List ℕ} → Waved n e ends amounts ex la t amounts ex la t
-waved-none = record { flowed = flow-none; rest = λ g h. refl; long = refl }
+pub waved-none : {n e : ℕ} {ends amounts ex la ways t : List ℕ} → Waved n e ends amounts ex la ways t amounts ex la ways t
+waved-none = record { ran = ran-none; rest = λ g h. refl; long = refl }
 
 pub waved-on :
-    {n e : ℕ} {ends amounts ex la t amounts′ ex′ la′ t′ amounts″ ex″ la″ t″ : List ℕ} → Waved n e ends amounts ex la t amounts′ ex′ la′ t′
-    → Waved n e ends amounts′ ex′ la′ t′ amounts″ ex″ la″ t″ → Waved n e ends amounts ex la t amounts″ ex″ la″ t″
-waved-on a b = record { flowed = flow-on (a .flowed) (b .flowed); rest = λ g h. b .rest g h ∙ a .rest g h; long = b .long ∙ a .long }
+    {n e : ℕ} {ends amounts ex la ways t amounts′ ex′ la′ ways′ t′ amounts″ ex″ la″ ways″ t″ : List ℕ} → Waved n e ends amounts ex la ways t amounts′ ex′ la′ ways′ t′
+    → Waved n e ends amounts′ ex′ la′ ways′ t′ amounts″ ex″ la″ ways″ t″ → Waved n e ends amounts ex la ways t amounts″ ex″ la″ ways″ t″
+waved-on a b = record { ran = ran-on (a .ran) (b .ran); rest = λ g h. b .rest g h ∙ a .rest g h; long = b .long ∙ a .long }
 
 pub ask-after :
-    {n e : ℕ} {ends fh fn th tn amounts ex la t amounts′ ex′ la′ t′ : List ℕ} → WavesAsk n e ends fh fn th tn amounts ex la t → Waved n e ends amounts ex la t amounts′ ex′ la′ t′
-    → WavesAsk n e ends fh fn th tn amounts′ ex′ la′ t′
+    {n e : ℕ} {ends fh fn th tn amounts ex la ways t amounts′ ex′ la′ ways′ t′ : List ℕ} → WavesAsk n e ends fh fn th tn amounts ex la ways t
+    → Waved n e ends amounts ex la ways t amounts′ ex′ la′ ways′ t′ → WavesAsk n e ends fh fn th tn amounts′ ex′ la′ ways′ t′
 ask-after p w =
-    record { course = course-after (p .course) (w .flowed); forth = p .forth; back = p .back; t-long = omega (arith, w .long, p .t-long) }
+    record {
+      course = course-after (p .course) (w .ran .flowed);
+      rows = w .ran .rows (p .rows);
+      forth = p .forth;
+      back = p .back;
+      t-long = omega (arith, w .long, p .t-long);
+    }
+
+-- ---- with what the waves go by
+
+module _ {n e : ℕ} {ends amounts ex la t : List ℕ} (p : SettleAsk n e ends amounts ex la t) where
+  pub settle-chainable :
+      {end : ℕ} {head next : List ℕ} → (end ≡ 0) ⊎ (end ≡ 1) → n ≤ length head → e ≤ length next → ((g : ℕ) → g < n → getD head g 0 ≡ e) → Chainable ends n e end head next
+  settle-chainable {end} which head-long next-long empty =
+      record {
+        few = p .course .net .few-links;
+        small = small which;
+        ends-long = p .course .net .ends-long;
+        head-long = head-long;
+        next-long = next-long;
+        below = below which;
+        empty = empty;
+      }
+    where
+      small : (end ≡ 0) ⊎ (end ≡ 1) → end ≤ 1
+      small (inl z) = omega arith
+      small (inr z) = omega arith
+
+      below : (end ≡ 0) ⊎ (end ≡ 1) → (k : ℕ) → k < e → endIn ends end k < n
+      below (inl z) = rw z (p .course .net .from)
+      below (inr z) = rw z (p .course .net .to)
+
+  pub settle-ask :
+      {ways₀ ways fh₀ fn₀ th₀ tn₀ fh fn th tn : List ℕ} → 2 * n ≤ length ways₀ → WaysFound n e ends amounts ways₀ ways → Chained ends n e 0 fh₀ fn₀ fh fn → Chained ends n e 1 th₀ tn₀ th tn
+      → WavesAsk n e ends fh fn th tn amounts ex la ways t
+  settle-ask room f forth back =
+      record {
+        course = p .course;
+        rows = record { right = f .found; long = omega (arith, f .long) };
+        forth = forth .index;
+        back = back .index;
+        t-long = p .t-long;
+      }
+
+pub settled : {n e : ℕ} {ends amounts ex la ways t amounts′ ex′ la′ ways′ t′ : List ℕ} → WavedAll n e ends amounts ex la ways t amounts′ ex′ la′ ways′ t′ → Settled n e ends amounts ex la t amounts′ ex′ la′ t′
+settled w = record { flowed = w .waved .ran .flowed; rest = w .waved .rest; long = w .waved .long; done = w .done }

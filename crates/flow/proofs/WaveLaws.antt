@@ -10,10 +10,11 @@ use lib.Dec.{eqb}
 use borrow.Author.Tests.{eqb-true, eqb-false, ne-eqb}
 use Rattle.survey.proofs.SumOrder.{sum-lt}
 use Rattle.flow.specs.Copies.{copied, flowing}
-use Rattle.flow.specs.Drains.{Way, pays, gives-back, Hop}
-use Rattle.flow.specs.Waves.{Flowed, lacks, unmarked, Remarked, Coming, Ahead, Passed, fallen, full, onward, Rises, Turned, rests, sent, Turnable, Pourable, Still, Poured}
+use Rattle.flow.specs.Ways.{Way, pays, gives-back}
+use Rattle.flow.specs.Drains.{Hop}
+use Rattle.flow.specs.Waves.{Ran, lacks, unmarked, Remarked, Coming, Ahead, Passed, fallen, full, onward, Rises, Turned, rests, sent, Turnable, Pourable, Still, Poured}
 use Rattle.flow.proofs.JoinLaws.{set-by}
-use Rattle.flow.proofs.FlowLaws.{flow-none, flow-on, course-after, lacks-fall, lack-no-excess, turned-flowed, turned-one}
+use Rattle.flow.proofs.FlowLaws.{ran-none, ran-on, course-after, lacks-fall, lack-no-excess, turned-ran, turned-one}
 
 -- ---- the marks of the groups that are passed
 
@@ -52,24 +53,24 @@ pub data Went (n : ℕ) (amounts₀ ex₀ la₀ amounts ex la order : List ℕ) 
   fell : 0 < r → lacks n la < lacks n la₀ → Went n amounts₀ ex₀ la₀ amounts ex la order count i r
   level : 0 < r → ((h : ℕ) → getD la h 0 ≡ getD la₀ h 0) → (j : ℕ) → j < i → 0 < getD ex (getD order j 0) 0 → Went n amounts₀ ex₀ la₀ amounts ex la order count i r
 
-pub record Pouring (n e : ℕ) (ends amounts₀ ex₀ la₀ t₀ order by : List ℕ) (started count : ℕ) (amounts ex la t : List ℕ) (r i : ℕ) : Type 0 where
+pub record Pouring (n e : ℕ) (ends amounts₀ ex₀ la₀ ways₀ t₀ order : List ℕ) (started count : ℕ) (amounts ex la ways t : List ℕ) (r i : ℕ) : Type 0 where
   pub from : started ≤ i
   pub within : r + i ≤ count
-  pub flowed : Flowed n e ends amounts₀ ex₀ la₀ amounts ex la
-  pub hops : (j : ℕ) → started ≤ j → j < i → Hop (copied n e ends) (flowing amounts) order by j
+  pub ran : Ran n e ends amounts₀ ex₀ la₀ ways₀ amounts ex la ways
+  pub hops : (j : ℕ) → started ≤ j → j < i → Hop (copied n e ends) (flowing amounts) order j
   pub remarked : Remarked n t₀ t
   pub began : (h : ℕ) → h < n → getD t h 0 ≡ 3 → 0 < getD la₀ h 0
   pub marked : (j : ℕ) → j < i → Coming t (getD order j 0)
   pub ahead : Ahead n t order i
   pub went : Went n amounts₀ ex₀ la₀ amounts ex la order count i r
 
-module _ {n e started count : ℕ} {ends fh fn th tn amounts₀ ex₀ la₀ t₀ order by : List ℕ} (p : Pourable n e ends fh fn th tn amounts₀ ex₀ la₀ t₀ order by started count) where
-  pub pour-begins : Pouring n e ends amounts₀ ex₀ la₀ t₀ order by started count amounts₀ ex₀ la₀ t₀ 0 count
+module _ {n e started count : ℕ} {ends fh fn th tn amounts₀ ex₀ la₀ ways₀ t₀ order : List ℕ} (p : Pourable n e ends fh fn th tn amounts₀ ex₀ la₀ ways₀ t₀ order started count) where
+  pub pour-begins : Pouring n e ends amounts₀ ex₀ la₀ ways₀ t₀ order started count amounts₀ ex₀ la₀ ways₀ t₀ 0 count
   pour-begins =
       record {
         from = p .more;
         within = omega arith;
-        flowed = flow-none;
+        ran = ran-none;
         hops = p .hops;
         remarked = remarked-none;
         began = p .began;
@@ -78,11 +79,11 @@ module _ {n e started count : ℕ} {ends fh fn th tn amounts₀ ex₀ la₀ t₀
         went = idle refl refl refl refl (λ j a b. absurd (omega arith));
       }
 
-  module _ {amounts ex la t : List ℕ} {r m i : ℕ} (w : Pouring n e ends amounts₀ ex₀ la₀ t₀ order by started count amounts ex la t r m) (at : m ≡ i + 1) (on : started ≤ i) where
+  module _ {amounts ex la ways t : List ℕ} {r m i : ℕ} (w : Pouring n e ends amounts₀ ex₀ la₀ ways₀ t₀ order started count amounts ex la ways t r m) (at : m ≡ i + 1) (on : started ≤ i) where
     within : i < count
     within = omega (arith, w .within)
 
-    hop : Hop (copied n e ends) (flowing amounts) order by i
+    hop : Hop (copied n e ends) (flowing amounts) order i
     hop = w .hops i on (omega arith)
 
     room : n ≤ length t
@@ -98,12 +99,14 @@ module _ {n e started count : ℕ} {ends fh fn th tn amounts₀ ex₀ la₀ t₀
         set-by t (getD order i 0) 2 (λ h v. h < n → v ≡ 3 → 0 < getD la₀ h 0) (omega (arith, p .group i within, room)) (λ l z. absurd (omega arith)) (λ j d. w .began j)
 
     -- the group at place i is passed, and one before it stands at the other end of its link
-    pub pour-turnable : Turnable n e (getD order i 0) (getD by i 0) ends fh fn th tn amounts ex la (set t (getD order i 0) 2)
+    pub pour-turnable : Turnable n e (getD order i 0) ends fh fn th tn amounts ex la ways (set t (getD order i 0) 2)
     pour-turnable =
         record {
-          course = course-after (p .course) (w .flowed);
+          course = course-after (p .course) (w .ran .flowed);
+          rows = w .ran .rows (p .rows);
           below = p .group i within;
-          link = hop .link;
+          k = hop .link;
+          link = hop .within;
           p = getD order (hop .earlier) 0;
           way = hop .way;
           mark = marked-after (hop .earlier) (hop .before);
@@ -115,20 +118,19 @@ module _ {n e started count : ℕ} {ends fh fn th tn amounts₀ ex₀ la₀ t₀
     -- what has not sent yet can still send: an amount falls only where the link's own from sends
     hops-after :
         (amounts′ : List ℕ) → Rises (getD order i 0) ends amounts amounts′
-        → (j : ℕ) → started ≤ j → j < i → Hop (copied n e ends) (flowing amounts′) order by j
+        → (j : ℕ) → started ≤ j → j < i → Hop (copied n e ends) (flowing amounts′) order j
     hops-after amounts′ up j a b =
         let h = w .hops j a (omega arith) in
-        record { link = h .link; earlier = h .earlier; before = h .before; way = stays (h .way) }
+        record { link = h .link; within = h .within; earlier = h .earlier; before = h .before; way = stays (h .way) }
       where
-        stays : {q : ℕ} → Way (copied n e ends) (flowing amounts) (getD by j 0) (getD order j 0) q → Way (copied n e ends) (flowing amounts′) (getD by j 0) (getD order j 0) q
+        stays : {k q : ℕ} → Way (copied n e ends) (flowing amounts) k (getD order j 0) q → Way (copied n e ends) (flowing amounts′) k (getD order j 0) q
         stays (pays to from) = pays to from
-        stays (gives-back from to has) =
-            gives-back from to (omega (arith, up (getD by j 0) (λ z. p .once j i b within (sym from ∙ z))))
+        stays {k} (gives-back from to has) = gives-back from to (omega (arith, up k (λ z. p .once j i b within (sym from ∙ z))))
 
     ahead : Ahead n (set t (getD order i 0) 2) order i
     ahead = passed-ahead t order i (p .group i within) room (rw at at (w .ahead))
 
-    went-after : {amounts′ ex′ la′ : List ℕ} {r′ : ℕ} → Turned n e (getD order i 0) ends amounts ex la (set t (getD order i 0) 2) amounts′ ex′ la′ r′ → Went n amounts₀ ex₀ la₀ amounts′ ex′ la′ order count i (r + r′)
+    went-after : {amounts′ ex′ la′ ways′ : List ℕ} {r′ : ℕ} → Turned n e (getD order i 0) ends amounts ex la ways (set t (getD order i 0) 2) amounts′ ex′ la′ ways′ r′ → Went n amounts₀ ex₀ la₀ amounts′ ex′ la′ order count i (r + r′)
     went-after {r′ = r′} (rests z) = go (w .went)
       where
         go : Went n amounts₀ ex₀ la₀ amounts ex la order count m r → Went n amounts₀ ex₀ la₀ amounts ex la order count i (r + 0)
@@ -154,23 +156,23 @@ module _ {n e started count : ℕ} {ends fh fn th tn amounts₀ ex₀ la₀ t₀
         -- one that began had a lack
         gone : (h : ℕ) → h < n → getD (set t (getD order i 0) 2) h 0 ≡ 3 → getD la′ h 0 ≡ 0 → lacks n la′ < lacks n la₀
         gone h l m z =
-            sum-lt n (λ j. getD la′ j 0) (λ j. getD la₀ j 0) (λ j b. flow-on (w .flowed) f .falls j) h l (omega (arith, began-after h l m))
+            sum-lt n (λ j. getD la′ j 0) (λ j. getD la₀ j 0) (λ j b. ran-on (w .ran) f .flowed .falls j) h l (omega (arith, began-after h l m))
 
         go : Went n amounts₀ ex₀ la₀ amounts ex la order count m r → Passed n la ex′ la′ (set t (getD order i 0) 2) → Went n amounts₀ ex₀ la₀ amounts′ ex′ la′ order count i (r + 1)
-        go v (fallen lower) = fell (omega arith) (omega (arith, lacks-fall (w .flowed)))
+        go v (fallen lower) = fell (omega arith) (omega (arith, lacks-fall (w .ran .flowed)))
         go v (full h l m z) = fell (omega arith) (gone h l m z)
         go (idle a b c d dry) (onward same h l m x) = come (omega arith) (λ j. same j ∙ ap (λ y. getD y j 0) d) h l m x
-        go (fell a b) (onward same h l m x) = fell (omega arith) (omega (arith, lacks-fall f))
+        go (fell a b) (onward same h l m x) = fell (omega arith) (omega (arith, lacks-fall (f .flowed)))
         go (level a b j c d) (onward same h l m x) = come (omega arith) (λ u. same u ∙ b u) h l m x
 
     pub pour-on :
-        {amounts′ ex′ la′ : List ℕ} {r′ : ℕ} → Turned n e (getD order i 0) ends amounts ex la (set t (getD order i 0) 2) amounts′ ex′ la′ r′
-        → Pouring n e ends amounts₀ ex₀ la₀ t₀ order by started count amounts′ ex′ la′ (set t (getD order i 0) 2) (r + r′) i
+        {amounts′ ex′ la′ ways′ : List ℕ} {r′ : ℕ} → Turned n e (getD order i 0) ends amounts ex la ways (set t (getD order i 0) 2) amounts′ ex′ la′ ways′ r′
+        → Pouring n e ends amounts₀ ex₀ la₀ ways₀ t₀ order started count amounts′ ex′ la′ ways′ (set t (getD order i 0) 2) (r + r′) i
     pour-on x =
         record {
           from = on;
           within = omega (arith, w .within, turned-one x);
-          flowed = flow-on (w .flowed) (turned-flowed x);
+          ran = ran-on (w .ran) (turned-ran x);
           hops = hops x;
           remarked = passed-remarked t (getD order i 0) (p .group i within) room (w .marked i (omega arith)) (w .remarked);
           began = began-after;
@@ -180,17 +182,17 @@ module _ {n e started count : ℕ} {ends fh fn th tn amounts₀ ex₀ la₀ t₀
         }
       where
         hops :
-            {amounts′ ex′ la′ : List ℕ} {r′ : ℕ} → Turned n e (getD order i 0) ends amounts ex la (set t (getD order i 0) 2) amounts′ ex′ la′ r′ → (j : ℕ) → started ≤ j → j < i
-            → Hop (copied n e ends) (flowing amounts′) order by j
+            {amounts′ ex′ la′ ways′ : List ℕ} {r′ : ℕ} → Turned n e (getD order i 0) ends amounts ex la ways (set t (getD order i 0) 2) amounts′ ex′ la′ ways′ r′ → (j : ℕ) → started ≤ j → j < i
+            → Hop (copied n e ends) (flowing amounts′) order j
         hops (rests z) j a b = w .hops j a (omega arith)
         hops {amounts′} (sent f up passed) j a b = hops-after amounts′ up j a b
 
   pub pour-done :
-      {amounts ex la t : List ℕ} {r i : ℕ} → i ≤ started → Pouring n e ends amounts₀ ex₀ la₀ t₀ order by started count amounts ex la t r i
-      → Poured n e ends amounts₀ ex₀ la₀ t₀ order started count amounts ex la t r
-  pour-done {amounts} {ex} {la} {t} {r} {i} d w =
+      {amounts ex la ways t : List ℕ} {r i : ℕ} → i ≤ started → Pouring n e ends amounts₀ ex₀ la₀ ways₀ t₀ order started count amounts ex la ways t r i
+      → Poured n e ends amounts₀ ex₀ la₀ ways₀ t₀ order started count amounts ex la ways t r
+  pour-done {amounts} {ex} {la} {ways} {t} {r} {i} d w =
       record {
-        flowed = w .flowed;
+        ran = w .ran;
         remarked = w .remarked;
         still = λ z. none z (w .went);
         fell = λ z. some z (w .went);
@@ -206,4 +208,4 @@ module _ {n e started count : ℕ} {ends fh fn th tn amounts₀ ex₀ la₀ t₀
       some z (fell a b) = b
       some z (level a b j c e) =
           let group = p .group j (omega (arith, p .more)) in
-          absurd (omega (arith, lack-no-excess (course-after (p .course) (w .flowed)) (getD order j 0) group (rw (b (getD order j 0)) (p .starts j (omega arith)))))
+          absurd (omega (arith, lack-no-excess (course-after (p .course) (w .ran .flowed)) (getD order j 0) group (rw (b (getD order j 0)) (p .starts j (omega arith)))))

@@ -12,7 +12,7 @@ use Rattle.survey.specs.Balance.{Amounts, credit, debit}
 use Rattle.survey.specs.Words.{amountsOf, markedSet}
 use Rattle.survey.proofs.Draining.{Drains}
 use Rattle.flow.specs.Links.{endOf, Given, bare, LinksWithin}
-use Rattle.flow.specs.Drains.{Net, Index}
+use Rattle.flow.specs.Drains.{Net}
 use Rattle.flow.specs.Sends.{Balanced}
 
 -- ---- what begins and what ends it
@@ -42,12 +42,11 @@ pub record Weighed (n : ℕ) (plus minus : List ℕ) (w : Weights) : Type 0 wher
   pub plus-is : (g : ℕ) → g < n → w .plus g ≡ getD plus g 0
   pub minus-is : (g : ℕ) → g < n → w .minus g ≡ getD minus g 0
 
--- what `heaviest` asks: links in a survey's size that have no cycle, their two chains, a place for each group and link, and a total plus that is small
-pub record Weighable (n e : ℕ) (links from-head from-next to-head to-next plus minus marks amounts : List ℕ) : Type 0 where
+-- what `heaviest` asks: links in a survey's size that have no cycle and of which no two are the same, a place for each group and link, and a total plus that is small
+pub record Weighable (n e : ℕ) (links plus minus marks amounts : List ℕ) : Type 0 where
   pub net : Net n e links
   pub no-cycle : Cycle (bare n e links) → ⊥
-  pub forth : Index n e (endOf links 0) from-head from-next
-  pub back : Index n e (endOf links 4) to-head to-next
+  pub once : (j k : ℕ) → j < e → k < e → endOf links 0 j ≡ endOf links 0 k → endOf links 4 j ≡ endOf links 4 k → j ≡ k
   pub plus-long : n ≤ length plus
   pub minus-long : n ≤ length minus
   pub marks-long : n ≤ length marks

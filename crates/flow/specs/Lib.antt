@@ -2,6 +2,7 @@
 pub mod Links
 pub mod Copies
 pub mod Chains
+pub mod Ways
 pub mod Drains
 pub mod Sends
 pub mod Waves

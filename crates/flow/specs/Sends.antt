@@ -29,6 +29,7 @@ pub record Safe (n e : ℕ) (ends amounts ex la : List ℕ) : Type 0 where
 pub record Course (n e : ℕ) (ends amounts ex la : List ℕ) : Type 0 where
   pub net : Copy n e ends
   pub no-cycle : Cycle (copied n e ends) → ⊥
+  pub once : (j k : ℕ) → j < e → k < e → endIn ends 0 j ≡ endIn ends 0 k → endIn ends 1 j ≡ endIn ends 1 k → j ≡ k
   pub amounts-long : e ≤ length amounts
   pub ex-long : n ≤ length ex
   pub la-long : n ≤ length la

@@ -1,5 +1,5 @@
 -- Waves: one after the other, until no group that drains has an excess.
-use Prim.Native.Nat.{ℕ, _%_, _<_, _≤_}
+use Prim.Native.Nat.{ℕ, _+_, _-_, _*_, _%_, _<_, _≤_}
 use mathlib.Core.Path.{_≡_}
 use mathlib.Core.Logic.{_⊎_}
 use mathlib.Core.List.{List}
@@ -9,7 +9,9 @@ use Rattle.survey.specs.Limits.{groupLimit}
 use Rattle.survey.specs.Sets.{Set, In, sum, only, outside}
 use Rattle.survey.specs.Rounds.{Weights}
 use Rattle.flow.specs.Copies.{endIn, copied, flowing}
-use Rattle.flow.specs.Drains.{Index, Way, Hop, Least}
+use Rattle.flow.specs.Chains.{Index}
+use Rattle.flow.specs.Ways.{Way, Ways, Notable, Noted}
+use Rattle.flow.specs.Drains.{Hop, Least}
 use Rattle.flow.specs.Sends.{Balanced, Course, Sendable, Sends}
 
 -- The state has changed by sends: whatever weights it was balanced for, it still is; no lack rises; and nothing changes beyond the survey.
@@ -21,6 +23,17 @@ pub record Flowed (n e : ℕ) (ends amounts ex la amounts′ ex′ la′ : List 
   pub la-long : length la′ ≡ length la
   pub ex-rest : (g : ℕ) → n ≤ g → getD ex′ g 0 ≡ getD ex g 0
   pub la-rest : (g : ℕ) → n ≤ g → getD la′ g 0 ≡ getD la g 0
+
+-- the rows of bits are the ways as the amounts are
+pub record Rows (n e : ℕ) (ends amounts ways : List ℕ) : Type 0 where
+  pub right : Ways (copied n e ends) (flowing amounts) e ways
+  pub long : 2 * n ≤ length ways
+
+-- The state has run on: it has flowed, and the rows are the ways still.
+pub record Ran (n e : ℕ) (ends amounts ex la ways amounts′ ex′ la′ ways′ : List ℕ) : Type 0 where
+  pub flowed : Flowed n e ends amounts ex la amounts′ ex′ la′
+  pub rows : Rows n e ends amounts ways → Rows n e ends amounts′ ways′
+  pub long : length ways′ ≡ length ways
 
 -- the total lack
 abbrev pub lacks : ℕ → List ℕ → ℕ
@@ -57,39 +70,51 @@ abbrev pub Rises : ℕ → List ℕ → List ℕ → List ℕ → Type 0
 Rises g ends amounts amounts′ = (k : ℕ) → (endIn ends 0 k ≡ g → ⊥) → flowing amounts k ≤ flowing amounts′ k
 
 -- what a send through link k, which takes at least so much, asks where the other end, q, is still to come
-pub record Offerable (k g q least : ℕ) (ends amounts ex la t : List ℕ) : Type 0 where
+pub record Offerable (k g q least : ℕ) (ends amounts ex la ways t : List ℕ) : Type 0 where
   pub q-within : q < length t
   pub amount-within : k < length amounts
+  pub link-within : 2 * k + 2 ≤ length ends
   pub sendable : Coming t q → least ≤ flowing amounts k → Sendable k g ends amounts ex la t
+  pub notable : Notable (endIn ends 0 k) (endIn ends 1 k) ways
 
-pub data Offered (k g q least : ℕ) (ends amounts ex la t : List ℕ) : List ℕ → List ℕ → List ℕ → Type 0 where
-  kept : Offered k g q least ends amounts ex la t amounts ex la
+pub data Offered (k g q least : ℕ) (ends amounts ex la ways t : List ℕ) : List ℕ → List ℕ → List ℕ → List ℕ → Type 0 where
+  kept : (Coming t q → least ≤ flowing amounts k → ⊥) → Offered k g q least ends amounts ex la ways t amounts ex la ways
   took :
-      {amounts′ ex′ la′ : List ℕ} → Coming t q → least ≤ flowing amounts k → Sends k g ends amounts ex la t amounts′ ex′ la′
-      → Offered k g q least ends amounts ex la t amounts′ ex′ la′
+      {amounts′ ex′ la′ ways′ : List ℕ} → Coming t q → least ≤ flowing amounts k → Sends k g ends amounts ex la t amounts′ ex′ la′
+      → Noted (endIn ends 0 k) (endIn ends 1 k) (flowing amounts′ k) ways ways′ → Offered k g q least ends amounts ex la ways t amounts′ ex′ la′ ways′
 
 -- the least amount of a link through which g sends: paying takes any, giving back one above 0
 abbrev pub leastFor : ℕ → ℕ
 leastFor end = only (eqb end 0) 1
 
 -- along one of the chains of g
-pub record Spillable (n e end g : ℕ) (ends head next amounts ex la t : List ℕ) : Type 0 where
+pub record Spillable (n e end g : ℕ) (ends head next amounts ex la ways t : List ℕ) : Type 0 where
   pub course : Course n e ends amounts ex la
+  pub rows : Rows n e ends amounts ways
   pub below : g < n
   pub which : (end ≡ 0) ⊎ (end ≡ 1)
   pub index : Index n e (endIn ends end) head next
   pub t-long : n ≤ length t
 
-pub data Spilled (n e g : ℕ) (ends amounts ex la t : List ℕ) : List ℕ → List ℕ → List ℕ → Type 0 where
-  none : Spilled n e g ends amounts ex la t amounts ex la
-  some :
-      {amounts′ ex′ la′ : List ℕ} → Flowed n e ends amounts ex la amounts′ ex′ la′ → Rises g ends amounts amounts′ → Passed n la ex′ la′ t
-      → Spilled n e g ends amounts ex la t amounts′ ex′ la′
+-- through link k of g, by that end, there is something to send
+pub record Takable (end g : ℕ) (ends amounts t : List ℕ) (k : ℕ) : Type 0 where
+  pub hit : endIn ends end k ≡ g
+  pub coming : Coming t (endIn ends (1 - end) k)
+  pub least : leastFor end ≤ flowing amounts k
 
--- p, which is still to come, is at the other end of the link through which g joined
-pub record Turnable (n e g k : ℕ) (ends from-head from-next to-head to-next amounts ex la t : List ℕ) : Type 0 where
+-- along the links before m: nothing was sent, since no link takes anything; or something was
+pub data Spilled (n e m end g : ℕ) (ends amounts ex la ways t : List ℕ) : List ℕ → List ℕ → List ℕ → List ℕ → Type 0 where
+  none : (0 < getD ex g 0 → (k : ℕ) → k < m → Takable end g ends amounts t k → ⊥) → Spilled n e m end g ends amounts ex la ways t amounts ex la ways
+  some :
+      {amounts′ ex′ la′ ways′ : List ℕ} → Ran n e ends amounts ex la ways amounts′ ex′ la′ ways′ → Rises g ends amounts amounts′ → Passed n la ex′ la′ t
+      → Spilled n e m end g ends amounts ex la ways t amounts′ ex′ la′ ways′
+
+-- g can pay into p, which is still to come, through link k
+pub record Turnable (n e g : ℕ) (ends from-head from-next to-head to-next amounts ex la ways t : List ℕ) : Type 0 where
   pub course : Course n e ends amounts ex la
+  pub rows : Rows n e ends amounts ways
   pub below : g < n
+  pub k : ℕ
   pub link : k < e
   pub p : ℕ
   pub way : Way (copied n e ends) (flowing amounts) k g p
@@ -99,11 +124,11 @@ pub record Turnable (n e g k : ℕ) (ends from-head from-next to-head to-next am
   pub t-long : n ≤ length t
 
 -- it had nothing to send and nothing changes; or it has sent
-pub data Turned (n e g : ℕ) (ends amounts ex la t : List ℕ) : List ℕ → List ℕ → List ℕ → ℕ → Type 0 where
-  rests : getD ex g 0 ≡ 0 → Turned n e g ends amounts ex la t amounts ex la 0
+pub data Turned (n e g : ℕ) (ends amounts ex la ways t : List ℕ) : List ℕ → List ℕ → List ℕ → List ℕ → ℕ → Type 0 where
+  rests : getD ex g 0 ≡ 0 → Turned n e g ends amounts ex la ways t amounts ex la ways 0
   sent :
-      {amounts′ ex′ la′ : List ℕ} → Flowed n e ends amounts ex la amounts′ ex′ la′ → Rises g ends amounts amounts′ → Passed n la ex′ la′ t
-      → Turned n e g ends amounts ex la t amounts′ ex′ la′ 1
+      {amounts′ ex′ la′ ways′ : List ℕ} → Ran n e ends amounts ex la ways amounts′ ex′ la′ ways′ → Rises g ends amounts amounts′ → Passed n la ex′ la′ t
+      → Turned n e g ends amounts ex la ways t amounts′ ex′ la′ ways′ 1
 
 -- ---- the groups that began the wave, at the first places of the order, are marked 3
 
@@ -120,8 +145,9 @@ pub record SetApart (t order : List ℕ) (c : ℕ) (t′ : List ℕ) : Type 0 wh
 
 -- ---- all turns, back through the order to the groups that began it
 
-pub record Pourable (n e : ℕ) (ends from-head from-next to-head to-next amounts ex la t order by : List ℕ) (started count : ℕ) : Type 0 where
+pub record Pourable (n e : ℕ) (ends from-head from-next to-head to-next amounts ex la ways t order : List ℕ) (started count : ℕ) : Type 0 where
   pub course : Course n e ends amounts ex la
+  pub rows : Rows n e ends amounts ways
   pub forth : Index n e (endIn ends 0) from-head from-next
   pub back : Index n e (endIn ends 1) to-head to-next
   pub more : started ≤ count
@@ -129,13 +155,12 @@ pub record Pourable (n e : ℕ) (ends from-head from-next to-head to-next amount
   pub group : (j : ℕ) → j < count → getD order j 0 < n
   pub once : (i j : ℕ) → i < j → j < count → getD order i 0 ≡ getD order j 0 → ⊥
   pub starts : (j : ℕ) → j < started → 0 < getD la (getD order j 0) 0
-  pub hops : (j : ℕ) → started ≤ j → j < count → Hop (copied n e ends) (flowing amounts) order by j
+  pub hops : (j : ℕ) → started ≤ j → j < count → Hop (copied n e ends) (flowing amounts) order j
   pub began : (h : ℕ) → h < n → getD t h 0 ≡ 3 → 0 < getD la h 0
   pub marked : (j : ℕ) → j < count → Coming t (getD order j 0)
   pub ahead : Ahead n t order count
   pub t-long : n ≤ length t
   pub order-long : n ≤ length order
-  pub by-long : n ≤ length by
 
 -- no group sent: nothing has changed, and none after those that began it has an excess
 pub record Still (amounts ex la order : List ℕ) (started count : ℕ) (amounts′ ex′ la′ : List ℕ) : Type 0 where
@@ -144,42 +169,53 @@ pub record Still (amounts ex la order : List ℕ) (started count : ℕ) (amounts
   pub la-same : la′ ≡ la
   pub dry : (j : ℕ) → started ≤ j → j < count → getD ex (getD order j 0) 0 ≡ 0
 
-pub record Poured (n e : ℕ) (ends amounts ex la t order : List ℕ) (started count : ℕ) (amounts′ ex′ la′ t′ : List ℕ) (r : ℕ) : Type 0 where
-  pub flowed : Flowed n e ends amounts ex la amounts′ ex′ la′
+pub record Poured (n e : ℕ) (ends amounts ex la ways t order : List ℕ) (started count : ℕ) (amounts′ ex′ la′ ways′ t′ : List ℕ) (r : ℕ) : Type 0 where
+  pub ran : Ran n e ends amounts ex la ways amounts′ ex′ la′ ways′
   pub remarked : Remarked n t t′
   pub still : r ≡ 0 → Still amounts ex la order started count amounts′ ex′ la′
   pub fell : 0 < r → lacks n la′ < lacks n la
 
 -- ---- a wave, and all waves
 
-pub record WavesAsk (n e : ℕ) (ends from-head from-next to-head to-next amounts ex la t : List ℕ) : Type 0 where
+pub record WavesAsk (n e : ℕ) (ends from-head from-next to-head to-next amounts ex la ways t : List ℕ) : Type 0 where
   pub course : Course n e ends amounts ex la
+  pub rows : Rows n e ends amounts ways
   pub forth : Index n e (endIn ends 0) from-head from-next
   pub back : Index n e (endIn ends 1) to-head to-next
   pub t-long : n ≤ length t
 
-pub record Wavable (n e : ℕ) (ends from-head from-next to-head to-next amounts ex la t order by : List ℕ) : Type 0 where
-  pub ask : WavesAsk n e ends from-head from-next to-head to-next amounts ex la t
-  pub order-long : n < length order
-  pub by-long : n < length by
+pub record Wavable (n e : ℕ) (ends from-head from-next to-head to-next amounts ex la ways t order : List ℕ) : Type 0 where
+  pub ask : WavesAsk n e ends from-head from-next to-head to-next amounts ex la ways t
+  pub order-long : n ≤ length order
 
 -- what the marks say is done: those that aren't 0 are the least set that drains, and it has no excess
 pub record Dry (n e : ℕ) (ends amounts ex la t : List ℕ) : Type 0 where
   pub least : Least (copied n e ends) (flowing amounts) (λ g. getD la g 0) (outside (unmarked t))
   pub dry : (g : ℕ) → g < n → In (outside (unmarked t)) g → getD ex g 0 ≡ 0
 
-pub record Waved (n e : ℕ) (ends amounts ex la t amounts′ ex′ la′ t′ : List ℕ) : Type 0 where
-  pub flowed : Flowed n e ends amounts ex la amounts′ ex′ la′
+pub record Waved (n e : ℕ) (ends amounts ex la ways t amounts′ ex′ la′ ways′ t′ : List ℕ) : Type 0 where
+  pub ran : Ran n e ends amounts ex la ways amounts′ ex′ la′ ways′
   pub rest : (g : ℕ) → n ≤ g → getD t′ g 0 ≡ getD t g 0
   pub long : length t′ ≡ length t
 
-pub record WavedOnce (n e : ℕ) (ends amounts ex la t order by amounts′ ex′ la′ t′ order′ by′ : List ℕ) (r : ℕ) : Type 0 where
-  pub waved : Waved n e ends amounts ex la t amounts′ ex′ la′ t′
+pub record WavedOnce (n e : ℕ) (ends amounts ex la ways t order amounts′ ex′ la′ ways′ t′ order′ : List ℕ) (r : ℕ) : Type 0 where
+  pub waved : Waved n e ends amounts ex la ways t amounts′ ex′ la′ ways′ t′
   pub order-long : length order′ ≡ length order
-  pub by-long : length by′ ≡ length by
   pub done : r ≡ 0 → Dry n e ends amounts′ ex′ la′ t′
   pub fell : 0 < r → lacks n la′ < lacks n la
 
-pub record WavedAll (n e : ℕ) (ends amounts ex la t amounts′ ex′ la′ t′ : List ℕ) : Type 0 where
-  pub waved : Waved n e ends amounts ex la t amounts′ ex′ la′ t′
+pub record WavedAll (n e : ℕ) (ends amounts ex la ways t amounts′ ex′ la′ ways′ t′ : List ℕ) : Type 0 where
+  pub waved : Waved n e ends amounts ex la ways t amounts′ ex′ la′ ways′ t′
+  pub done : Dry n e ends amounts′ ex′ la′ t′
+
+-- ---- all waves, with what they go by
+
+pub record SettleAsk (n e : ℕ) (ends amounts ex la t : List ℕ) : Type 0 where
+  pub course : Course n e ends amounts ex la
+  pub t-long : n ≤ length t
+
+pub record Settled (n e : ℕ) (ends amounts ex la t amounts′ ex′ la′ t′ : List ℕ) : Type 0 where
+  pub flowed : Flowed n e ends amounts ex la amounts′ ex′ la′
+  pub rest : (g : ℕ) → n ≤ g → getD t′ g 0 ≡ getD t g 0
+  pub long : length t′ ≡ length t
   pub done : Dry n e ends amounts′ ex′ la′ t′

@@ -3,7 +3,7 @@ use crate::copies::copy_ends;
 use crate::copies::put_amounts;
 use crate::sizes::ENDS;
 use crate::sizes::LINKS;
-use crate::waves::waves;
+use crate::waves::settle;
 ghost use Prim.Native.Nat.{_-_, _≤_};
 ghost use mathlib.Core.Path.{_≡_};
 ghost use lib.ListN.{length};
@@ -54,35 +54,19 @@ pub fn heaviest(
     n: usize,
     e: usize,
     links: &[u8],
-    from_head: &[u16],
-    from_next: &[u16],
-    to_head: &[u16],
-    to_next: &[u16],
     plus: &mut [u64],
     minus: &mut [u64],
     marks: &mut [u8],
     amounts: &mut [u8],
 )
-    requires { ⌜ Weighable n e (now links) (now «from_head») (now «from_next») (now «to_head») (now «to_next») (now plus) (now minus) (now marks) (now amounts) ⌝ }
+    requires { ⌜ Weighable n e (now links) (now plus) (now minus) (now marks) (now amounts) ⌝ }
     ensures { λ r. ⌜ Heavy n e (now (links .entry)) (now (plus .entry)) (now (minus .entry)) (now (marks .entry)) (now (amounts .entry)) (now (plus .exit)) (now (minus .exit)) (now (marks .exit)) (now (amounts .exit)) ⌝ }
 {
     let mut ends = [0u8; ENDS];
     copy_ends(e, links, &mut ends);
     halve(n, plus, minus);
     let mut x = [0u64; LINKS];
-    waves(
-        n,
-        e,
-        &ends,
-        from_head,
-        from_next,
-        to_head,
-        to_next,
-        &mut x,
-        plus,
-        minus,
-        marks,
-    );
+    settle(n, e, &ends, &mut x, plus, minus, marks);
     flip_all(n, marks);
     put_amounts(e, &x, amounts);
 }

@@ -1,5 +1,5 @@
 // Waves: the heaviest closed set, with the amounts that prove it, and the set that drains, which the checker asks for too.
-pub mod chains;
+mod chains;
 mod copies;
 pub mod draining;
 mod drains;
@@ -9,3 +9,4 @@ mod sends;
 pub mod sizes;
 mod spills;
 mod waves;
+mod ways;

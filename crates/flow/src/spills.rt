@@ -1,11 +1,12 @@
-// What a group cannot send through the link through which it joined, it sends through its other links, to groups whose turn is still to come:
-// those that are marked 1 or 3. So a wave carries as much as it can, and fewer are needed.
+// A group sends through its links, one after the other, to groups whose turn is still to come: those that are marked 1 or 3. It goes on until
+// nothing is left, so that a wave carries as much as it can, and fewer are needed.
 use crate::ends::end_in;
 use crate::sends::send;
+use crate::ways::note;
 ghost use mathlib.Core.Path.{_≡_};
 ghost use Rattle.flow.specs.Waves.{Offerable, Offered, leastFor, Spillable, Spilled};
 
-// Through link k to q, if q is still to come and the link has the least amount that a send takes.
+// Through link k to q, if q is still to come and the link has the least amount that a send takes. Whether its from can give back is noted.
 fn offer(
     k: usize,
     g: usize,
@@ -15,10 +16,11 @@ fn offer(
     amounts: &mut [u64],
     excess: &mut [u64],
     lack: &mut [u64],
+    ways: &mut [u64],
     t: &[u8],
 )
-    requires { ⌜ Offerable k g q least (now ends) (now amounts) (now excess) (now lack) (now t) ⌝ }
-    ensures { λ r. ⌜ Offered k g q least (now (ends .entry)) (now (amounts .entry)) (now (excess .entry)) (now (lack .entry)) (now (t .entry)) (now (amounts .exit)) (now (excess .exit)) (now (lack .exit)) ⌝ }
+    requires { ⌜ Offerable k g q least (now ends) (now amounts) (now excess) (now lack) (now ways) (now t) ⌝ }
+    ensures { λ r. ⌜ Offered k g q least (now (ends .entry)) (now (amounts .entry)) (now (excess .entry)) (now (lack .entry)) (now (ways .entry)) (now (t .entry)) (now (amounts .exit)) (now (excess .exit)) (now (lack .exit)) (now (ways .exit)) ⌝ }
 {
     if t[q] % 2 != 1 {
         return;
@@ -27,6 +29,9 @@ fn offer(
         return;
     }
     send(k, g, ends, amounts, excess, lack, t);
+    let from = end_in(ends, k, 0);
+    let to = end_in(ends, k, 1);
+    note(from, to, amounts[k], ways);
 }
 
 // Paying asks no amount of a link, giving back some.
@@ -49,10 +54,11 @@ pub fn spill(
     amounts: &mut [u64],
     excess: &mut [u64],
     lack: &mut [u64],
+    ways: &mut [u64],
     t: &[u8],
 )
-    requires { ⌜ Spillable n e end g (now ends) (now head) (now next) (now amounts) (now excess) (now lack) (now t) ⌝ }
-    ensures { λ r. ⌜ Spilled n e g (now (ends .entry)) (now (amounts .entry)) (now (excess .entry)) (now (lack .entry)) (now (t .entry)) (now (amounts .exit)) (now (excess .exit)) (now (lack .exit)) ⌝ }
+    requires { ⌜ Spillable n e end g (now ends) (now head) (now next) (now amounts) (now excess) (now lack) (now ways) (now t) ⌝ }
+    ensures { λ r. ⌜ Spilled n e e end g (now (ends .entry)) (now (amounts .entry)) (now (excess .entry)) (now (lack .entry)) (now (ways .entry)) (now (t .entry)) (now (amounts .exit)) (now (excess .exit)) (now (lack .exit)) (now (ways .exit)) ⌝ }
 {
     let least = least_for(end);
     let mut k = head[g] as usize;
@@ -61,7 +67,7 @@ pub fn spill(
             return;
         }
         let q = end_in(ends, k, 1 - end);
-        offer(k, g, q, least, ends, amounts, excess, lack, t);
+        offer(k, g, q, least, ends, amounts, excess, lack, ways, t);
         k = next[k] as usize;
     }
 }

@@ -1,11 +1,14 @@
 // Waves. One wave grows the set that drains and then goes back through the order of joining: each group with an excess sends it on to one that
 // joined earlier, so that what reaches a group with a lack lowers that. No wave is in vain, since the total lack falls with each.
+use crate::chains::chain;
 use crate::drains::begin;
 use crate::drains::grow;
-use crate::sends::send;
-use crate::sizes::PLACES;
+use crate::sizes::GROUPS;
+use crate::sizes::LINKS;
+use crate::sizes::ROWS;
 use crate::spills::spill;
-ghost use Rattle.flow.specs.Waves.{Apartable, SetApart, Turnable, Turned, Pourable, Poured, Wavable, WavedOnce, WavesAsk, WavedAll};
+use crate::ways::find_ways;
+ghost use Rattle.flow.specs.Waves.{Apartable, SetApart, Turnable, Turned, Pourable, Poured, Wavable, WavedOnce, WavesAsk, WavedAll, SettleAsk, Settled};
 
 // The groups that began the wave are marked 3: each of them takes at most its lack.
 fn set_apart(t: &mut [u8], order: &[u16], started: usize)
@@ -20,13 +23,12 @@ fn set_apart(t: &mut [u8], order: &[u16], started: usize)
     }
 }
 
-// The turn of group g: it sends through link k, through which it joined, and what that doesn't take through its other links, giving back before
-// it pays. How many groups had something to send: 1 or 0.
+// The turn of group g: it gives back what it can through the links from it, and pays the rest through the links to it. How many groups had
+// something to send: 1 or 0.
 fn turn(
     n: usize,
     e: usize,
     g: usize,
-    k: usize,
     ends: &[u8],
     from_head: &[u16],
     from_next: &[u16],
@@ -35,15 +37,15 @@ fn turn(
     amounts: &mut [u64],
     excess: &mut [u64],
     lack: &mut [u64],
+    ways: &mut [u64],
     t: &[u8],
 ) -> usize
-    requires { ⌜ Turnable n e g k (now ends) (now «from_head») (now «from_next») (now «to_head») (now «to_next») (now amounts) (now excess) (now lack) (now t) ⌝ }
-    ensures { λ r. ⌜ Turned n e g (now (ends .entry)) (now (amounts .entry)) (now (excess .entry)) (now (lack .entry)) (now (t .entry)) (now (amounts .exit)) (now (excess .exit)) (now (lack .exit)) r ⌝ }
+    requires { ⌜ Turnable n e g (now ends) (now «from_head») (now «from_next») (now «to_head») (now «to_next») (now amounts) (now excess) (now lack) (now ways) (now t) ⌝ }
+    ensures { λ r. ⌜ Turned n e g (now (ends .entry)) (now (amounts .entry)) (now (excess .entry)) (now (lack .entry)) (now (ways .entry)) (now (t .entry)) (now (amounts .exit)) (now (excess .exit)) (now (lack .exit)) (now (ways .exit)) r ⌝ }
 {
     if excess[g] == 0 {
         return 0;
     }
-    send(k, g, ends, amounts, excess, lack, t);
     spill(
         n,
         e,
@@ -55,9 +57,23 @@ fn turn(
         amounts,
         excess,
         lack,
+        ways,
         t,
     );
-    spill(n, e, 1, g, ends, to_head, to_next, amounts, excess, lack, t);
+    spill(
+        n,
+        e,
+        1,
+        g,
+        ends,
+        to_head,
+        to_next,
+        amounts,
+        excess,
+        lack,
+        ways,
+        t,
+    );
     1
 }
 
@@ -74,27 +90,25 @@ fn pour(
     amounts: &mut [u64],
     excess: &mut [u64],
     lack: &mut [u64],
+    ways: &mut [u64],
     t: &mut [u8],
     order: &[u16],
-    by: &[u16],
     started: usize,
     count: usize,
 ) -> usize
-    requires { ⌜ Pourable n e (now ends) (now «from_head») (now «from_next») (now «to_head») (now «to_next») (now amounts) (now excess) (now lack) (now t) (now order) (now by) started count ⌝ }
-    ensures { λ r. ⌜ Poured n e (now (ends .entry)) (now (amounts .entry)) (now (excess .entry)) (now (lack .entry)) (now (t .entry)) (now (order .entry)) started count (now (amounts .exit)) (now (excess .exit)) (now (lack .exit)) (now (t .exit)) r ⌝ }
+    requires { ⌜ Pourable n e (now ends) (now «from_head») (now «from_next») (now «to_head») (now «to_next») (now amounts) (now excess) (now lack) (now ways) (now t) (now order) started count ⌝ }
+    ensures { λ r. ⌜ Poured n e (now (ends .entry)) (now (amounts .entry)) (now (excess .entry)) (now (lack .entry)) (now (ways .entry)) (now (t .entry)) (now (order .entry)) started count (now (amounts .exit)) (now (excess .exit)) (now (lack .exit)) (now (ways .exit)) (now (t .exit)) r ⌝ }
 {
     let mut sent = 0;
     let mut i = count;
     while started < i {
         i -= 1;
         let g = order[i] as usize;
-        let k = by[i] as usize;
         t[g] = 2;
         sent += turn(
             n,
             e,
             g,
-            k,
             ends,
             from_head,
             from_next,
@@ -103,6 +117,7 @@ fn pour(
             amounts,
             excess,
             lack,
+            ways,
             t,
         );
     }
@@ -121,28 +136,15 @@ fn wave(
     amounts: &mut [u64],
     excess: &mut [u64],
     lack: &mut [u64],
+    ways: &mut [u64],
     t: &mut [u8],
     order: &mut [u16],
-    by: &mut [u16],
 ) -> usize
-    requires { ⌜ Wavable n e (now ends) (now «from_head») (now «from_next») (now «to_head») (now «to_next») (now amounts) (now excess) (now lack) (now t) (now order) (now by) ⌝ }
-    ensures { λ r. ⌜ WavedOnce n e (now (ends .entry)) (now (amounts .entry)) (now (excess .entry)) (now (lack .entry)) (now (t .entry)) (now (order .entry)) (now (by .entry)) (now (amounts .exit)) (now (excess .exit)) (now (lack .exit)) (now (t .exit)) (now (order .exit)) (now (by .exit)) r ⌝ }
+    requires { ⌜ Wavable n e (now ends) (now «from_head») (now «from_next») (now «to_head») (now «to_next») (now amounts) (now excess) (now lack) (now ways) (now t) (now order) ⌝ }
+    ensures { λ r. ⌜ WavedOnce n e (now (ends .entry)) (now (amounts .entry)) (now (excess .entry)) (now (lack .entry)) (now (ways .entry)) (now (t .entry)) (now (order .entry)) (now (amounts .exit)) (now (excess .exit)) (now (lack .exit)) (now (ways .exit)) (now (t .exit)) (now (order .exit)) r ⌝ }
 {
     let started = begin(n, lack, t, order);
-    let count = grow(
-        n,
-        e,
-        ends,
-        amounts,
-        from_head,
-        from_next,
-        to_head,
-        to_next,
-        t,
-        order,
-        by,
-        started,
-    );
+    let count = grow(n, ways, t, order, started);
     set_apart(t, order, started);
     pour(
         n,
@@ -155,16 +157,16 @@ fn wave(
         amounts,
         excess,
         lack,
+        ways,
         t,
         order,
-        by,
         started,
         count,
     )
 }
 
 // Wave after wave, until no group that drains has an excess.
-pub fn waves(
+fn waves(
     n: usize,
     e: usize,
     ends: &[u8],
@@ -175,13 +177,13 @@ pub fn waves(
     amounts: &mut [u64],
     excess: &mut [u64],
     lack: &mut [u64],
+    ways: &mut [u64],
     t: &mut [u8],
 )
-    requires { ⌜ WavesAsk n e (now ends) (now «from_head») (now «from_next») (now «to_head») (now «to_next») (now amounts) (now excess) (now lack) (now t) ⌝ }
-    ensures { λ r. ⌜ WavedAll n e (now (ends .entry)) (now (amounts .entry)) (now (excess .entry)) (now (lack .entry)) (now (t .entry)) (now (amounts .exit)) (now (excess .exit)) (now (lack .exit)) (now (t .exit)) ⌝ }
+    requires { ⌜ WavesAsk n e (now ends) (now «from_head») (now «from_next») (now «to_head») (now «to_next») (now amounts) (now excess) (now lack) (now ways) (now t) ⌝ }
+    ensures { λ r. ⌜ WavedAll n e (now (ends .entry)) (now (amounts .entry)) (now (excess .entry)) (now (lack .entry)) (now (ways .entry)) (now (t .entry)) (now (amounts .exit)) (now (excess .exit)) (now (lack .exit)) (now (ways .exit)) (now (t .exit)) ⌝ }
 {
-    let mut order = [0u16; PLACES];
-    let mut by = [0u16; PLACES];
+    let mut order = [0u16; GROUPS];
     loop {
         let sent = wave(
             n,
@@ -194,12 +196,49 @@ pub fn waves(
             amounts,
             excess,
             lack,
+            ways,
             t,
             &mut order,
-            &mut by,
         );
         if sent == 0 {
             return;
         }
     }
+}
+
+// The waves with what they go by: the two chains of each group, and the ways.
+pub fn settle(
+    n: usize,
+    e: usize,
+    ends: &[u8],
+    amounts: &mut [u64],
+    excess: &mut [u64],
+    lack: &mut [u64],
+    t: &mut [u8],
+)
+    requires { ⌜ SettleAsk n e (now ends) (now amounts) (now excess) (now lack) (now t) ⌝ }
+    ensures { λ r. ⌜ Settled n e (now (ends .entry)) (now (amounts .entry)) (now (excess .entry)) (now (lack .entry)) (now (t .entry)) (now (amounts .exit)) (now (excess .exit)) (now (lack .exit)) (now (t .exit)) ⌝ }
+{
+    let mut from_head = [e as u16; GROUPS];
+    let mut from_next = [0u16; LINKS];
+    chain(ends, n, e, 0, &mut from_head, &mut from_next);
+    let mut to_head = [e as u16; GROUPS];
+    let mut to_next = [0u16; LINKS];
+    chain(ends, n, e, 1, &mut to_head, &mut to_next);
+    let mut ways = [0u64; ROWS];
+    find_ways(n, e, ends, amounts, &mut ways);
+    waves(
+        n,
+        e,
+        ends,
+        &from_head,
+        &from_next,
+        &to_head,
+        &to_next,
+        amounts,
+        excess,
+        lack,
+        &mut ways,
+        t,
+    );
 }

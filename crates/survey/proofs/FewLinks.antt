@@ -32,6 +32,18 @@ below-later {s} x i (suc j) l h =
     next : Ascends (s .link j) (s .link (suc j))
     next = let e : suc j - 1 ≡ j = omega arith in rw e at (x .ascends (suc j) (omega arith) h)
 
+differ : {i j : Link} → Ascends i j → i .from ≡ j .from → i .to ≡ j .to → ⊥
+differ (inl l) p q = omega arith
+differ (inr l) p q = omega arith
+
+-- No link stands twice.
+pub link-once : {s : Survey} → Sound s → (j k : ℕ) → j < s .e → k < s .e → s .link j .from ≡ s .link k .from → s .link j .to ≡ s .link k .to → j ≡ k
+link-once x j k a b p q =
+    at-most-at-least (λ l. differ (below-later x j k l b) p q) (λ l. differ (below-later x k j l a) (sym p) (sym q))
+  where
+    at-most-at-least : {u v : ℕ} → (u < v → ⊥) → (v < u → ⊥) → u ≡ v
+    at-most-at-least d f = omega arith
+
 -- One law for both ends: links of which no two have both ends alike, with their second ends below n, are at most n to a first end.
 module _ (e : ℕ) (first second : ℕ → ℕ) (apart : (i j : ℕ) → i < j → j < e → first i ≡ first j → second i ≡ second j → ⊥) where
   is : ℕ → ℕ → ℕ → Bool
@@ -110,10 +122,6 @@ module _ (e : ℕ) (first second : ℕ → ℕ) (apart : (i j : ℕ) → i < j �
 
 -- What a group of an admitted survey gets, and what it pays, where each amount is within its limit: no sum of a balance wraps.
 module _ {s : Survey} (x : Sound s) (a : Amounts) (small : (k : ℕ) → k < s .e → a k ≤ amountLimit) where
-  differ : {i j : Link} → Ascends i j → i .from ≡ j .from → i .to ≡ j .to → ⊥
-  differ (inl l) p q = omega arith
-  differ (inr l) p q = omega arith
-
   pub gets-fit : (g : ℕ) → gets s a g ≤ groupLimit * amountLimit
   unfolding gets
   gets-fit g =

@@ -4,14 +4,14 @@ use borrow.Author.Needs.{needs}
 use Rattle.chooser.proofs.choose_admitted.Statement.{statement}
 use Rattle.chooser.proofs.choose_admitted.Tie as tie
 
-slice-aggregate-rounds-from-all : tie.Need-slice-aggregate-rounds-from-all
-slice-aggregate-rounds-from-all c = search needs
+slice-aggregate-rounds : tie.Need-slice-aggregate-rounds
+slice-aggregate-rounds c = search needs
 
-slice-aggregate-rounds-from-all-2 : tie.Need-slice-aggregate-rounds-from-all-2
-slice-aggregate-rounds-from-all-2 c = search needs
+slice-aggregate-rounds-2 : tie.Need-slice-aggregate-rounds-2
+slice-aggregate-rounds-2 c = search needs
 
-rounds-from-all-requires : tie.Need-rounds-from-all-requires
-rounds-from-all-requires c κs = all-ask ((c .before .before .before .before .before .before) .pre)
+rounds-requires : tie.Need-rounds-requires
+rounds-requires c κs = all-ask ((c .before .before .before .before .before .before) .pre)
 
 slice-aggregate-copy : tie.Need-slice-aggregate-copy
 slice-aggregate-copy c = search needs
@@ -35,15 +35,15 @@ same-length-2 : tie.Need-same-length-2
 same-length-2 c = search needs
 
 returns : tie.Need-returns
-returns c = chosen ((c .before .before .before .before .before .before .before .before .before .before .before .before .before .before .before .before .before .before .before) .pre) ((c .before .before .before .before .before .before .before .before .before .before .before .before) .rounds-from-all .ensures) ((c .before .before .before .before .before .before .before) .copy .ensures) ((c .before .before) .copy2 .ensures)
+returns c = chosen ((c .before .before .before .before .before .before .before .before .before .before .before .before .before .before .before .before .before .before .before) .pre) ((c .before .before .before .before .before .before .before .before .before .before .before .before) .rounds .ensures) ((c .before .before .before .before .before .before .before) .copy .ensures) ((c .before .before) .copy2 .ensures)
 
 pub choose-admitted-spec : {M : Type 1} → statement M
 choose-admitted-spec =
     tie.close
     (tie.spec
-    slice-aggregate-rounds-from-all
-    slice-aggregate-rounds-from-all-2
-    rounds-from-all-requires
+    slice-aggregate-rounds
+    slice-aggregate-rounds-2
+    rounds-requires
     slice-aggregate-copy
     copy-requires
     mul-copy

@@ -1,0 +1,2 @@
+-- The laws of digits and rows.
+pub mod BitLaws

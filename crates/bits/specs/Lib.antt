@@ -1,0 +1,2 @@
+-- Sets of groups as the digits of words.
+pub mod Bits
