@@ -6,7 +6,7 @@ use crate::ways::note;
 ghost use mathlib.Core.Path.{_≡_};
 ghost use Rattle.flow.specs.Waves.{Offerable, Offered, leastFor, Spillable, Spilled};
 
-// Through link k to q, if q is still to come and the link has the least amount that a send takes. Whether its from can give back is noted.
+// Through link k to q, if the link has the least amount that a send takes (few do for giving back) and q is still to come. Whether its from can give back is noted.
 fn offer(
     k: usize,
     g: usize,
@@ -22,10 +22,10 @@ fn offer(
     requires { ⌜ Offerable k g q least (now ends) (now amounts) (now excess) (now lack) (now ways) (now t) ⌝ }
     ensures { λ r. ⌜ Offered k g q least (now (ends .entry)) (now (amounts .entry)) (now (excess .entry)) (now (lack .entry)) (now (ways .entry)) (now (t .entry)) (now (amounts .exit)) (now (excess .exit)) (now (lack .exit)) (now (ways .exit)) ⌝ }
 {
-    if t[q] % 2 != 1 {
+    if amounts[k] < least {
         return;
     }
-    if amounts[k] < least {
+    if t[q] % 2 != 1 {
         return;
     }
     send(k, g, ends, amounts, excess, lack, t);
