@@ -12,7 +12,7 @@ use lib.Pow.{pow-pos, pow-lt, pow-add, split, shl-shr, shr-shr}
 use lib.Bits.{bitAnd, bitOr, bitXor, differ, and-step, or-step, xor-step, and-shr, or-shr, xor-shr}
 use lib.Bits.{or-lt, xor-lt, and-block, and-mask, and-zero-r, or-add-and, xor-add-and}
 use lib.Count.{trailingZeros, under}
-use lib.ListN.{length, getD, set, length-set}
+use lib.ListN.{length, getD, set, length-set, replicate, getD-replicate}
 use lib.Seq.{getD-set-same, getD-set-other, set-out}
 use Rattle.bits.specs.Bits.{digit, bit, with, without, putBit, cutBit}
 
@@ -173,6 +173,24 @@ half-bit m g half i h =
 pub zero-bit : (m : List ℕ) (g h : ℕ) → ((i : ℕ) → getD m i 0 ≡ 0) → bit m g h ≡ 0
 unfolding bit
 zero-bit m g h zeros = ap (λ (x : ℕ). digit x (h % 64)) (zeros (2 * g + h / 64)) ∙ zero-digit (h % 64)
+
+-- A word whose digits are all set.
+ones-double : (k : ℕ) → 2 ^ suc k - 1 ≡ 2 * (2 ^ k - 1) + 1
+ones-double k = omega (arith, pow-suc 2 k, pow-pos k)
+
+pub ones-digit : (k i : ℕ) → i < k → digit (2 ^ k - 1) i ≡ 1
+unfolding digit
+ones-digit zero i h = absurd (omega arith)
+ones-digit (suc k) zero h = omega (arith, ones-double k)
+ones-digit (suc k) (suc i) h =
+    let half : (2 ^ suc k - 1) / 2 ≡ 2 ^ k - 1 = omega (arith, ones-double k) in
+    half-digit (2 ^ suc k - 1) i ∙ ap (λ (x : ℕ). digit x i) half ∙ ones-digit k i (omega arith)
+
+-- A row of two such words has everybody.
+pub full-bit : (h : ℕ) → h < 128 → bit (replicate 2 (2 ^ 64 - 1)) 0 h ≡ 1
+unfolding bit
+full-bit h l =
+    ap (λ (x : ℕ). digit x (h % 64)) (getD-replicate 2 (2 * 0 + h / 64) (2 ^ 64 - 1) 0 (omega arith)) ∙ ones-digit 64 (h % 64) (omega arith)
 
 -- Rows in which one word is changed at one digit, by `with` or `without`.
 module _ (change : ℕ → ℕ → ℕ) (m : List ℕ) (g h : ℕ) where

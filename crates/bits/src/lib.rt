@@ -5,6 +5,9 @@ ghost use lib.ListN.{length};
 ghost use lib.Count.{trailingZeros};
 ghost use Rattle.bits.specs.Bits.{without, putBit, cutBit};
 
+// The word that has every group.
+pub const FULL: u64 = 18_446_744_073_709_551_615;
+
 // The word with digit i alone, and no shift in its promise: so nothing above asks again whether one loses a digit.
 fn lone(i: usize) -> u64
     requires { ⌜ i < 64 ⌝ }

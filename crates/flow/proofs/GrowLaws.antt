@@ -1,6 +1,6 @@
 -- Laws of the growing: one step after the other, who has not joined, and one half of a row, of which those join that have not.
 use Prim.Native.Nat.{ℕ, _+_, _-_, _*_, _/_, _%_, _<_, _≤_}
-use mathlib.Core.Path.{_≡_, refl, ap, _∙_}
+use mathlib.Core.Path.{_≡_, refl, sym, ap, _∙_}
 use mathlib.Core.List.{List}
 use mathlib.Core.Bool.{Bool, true, false}
 use native.Mathlib.Omega.{arith}
@@ -10,10 +10,9 @@ use lib.ListN.{length, getD, set, length-set}
 use lib.Seq.{getD-set-same, getD-set-other}
 use lib.Dec.{ltb}
 use borrow.Author.Tests.{ltb-true, ltb-false}
-use Rattle.bits.specs.Bits.{digit, bit, putBit, cutBit}
-use Rattle.bits.proofs.BitLaws.{digit-bound, and-digit, and-both, xor-less, half-bit, put-same, cut-same, put-other, cut-other}
-use Rattle.flow.specs.Drains.{Placed, InRow, Joinable, Joined, Grew, Growable, Seeable, SawHalf, Others}
-use Rattle.flow.specs.Ways.{Noted, stands, fails}
+use Rattle.bits.specs.Bits.{digit, bit, cutBit}
+use Rattle.bits.proofs.BitLaws.{digit-bound, and-digit, and-both, xor-less, half-bit, cut-same, cut-other, cut-length}
+use Rattle.flow.specs.Drains.{Placed, InRow, Joinable, Joined, Grew, Growable, Seeable, SawHalf, Others, OthersOf}
 
 -- ---- one step after the other
 
@@ -74,22 +73,35 @@ grew-growable p a =
 
 -- ---- who has not joined, noted group by group
 
-pub others-none : (t others : List ℕ) → Others 0 t others
-others-none t others = record { each = λ g h. absurd (omega arith) }
+pub others-none : (order others : List ℕ) → OthersOf order 0 others others
+others-none order others = record { taken = λ i h. absurd (omega arith); left = λ g l d. refl; long = refl }
 
 pub others-more :
-    {g : ℕ} {t others others′ : List ℕ} → g < 128 → 2 ≤ length others → getD t g 0 ≤ 1 → Others g t others → Noted g 0 (1 - getD t g 0) others others′
-    → Others (g + 1) t others′
-others-more {g} {t} {others} few room bound o (stands a) = record { each = λ h k. go h k (ℕ-discrete h g) }
+    {i : ℕ} {order others₀ others : List ℕ} → getD order i 0 < 128 → 2 ≤ length others → ((j : ℕ) → j < i → getD order j 0 < 128) → OthersOf order i others₀ others
+    → OthersOf order (i + 1) others₀ (cutBit others 0 (getD order i 0))
+others-more {i} {order} {others₀} {others} few room group o =
+    record {
+      taken = λ j h. gone j h (ℕ-discrete (getD order j 0) (getD order i 0));
+      left = λ g l d. cut-other others 0 (getD order i 0) 0 g few l (λ z. d i (omega arith) (sym (z .1))) ∙ o .left g l (λ j h. d j (omega arith));
+      long = cut-length others 0 (getD order i 0) ∙ o .long;
+    }
   where
-    go : (h : ℕ) → h < g + 1 → Dec (h ≡ g) → bit (putBit others 0 g) 0 h + getD t h 0 ≡ 1
-    go h k (yes e) = rw e (omega (arith, put-same others 0 g few room, a))
-    go h k (no d) = omega (arith, put-other others 0 g 0 h few (omega arith) (λ z. d (z .1)), o .each h (omega arith))
-others-more {g} {t} {others} few room bound o (fails a) = record { each = λ h k. go h k (ℕ-discrete h g) }
+    gone : (j : ℕ) → j < i + 1 → Dec (getD order j 0 ≡ getD order i 0) → bit (cutBit others 0 (getD order i 0)) 0 (getD order j 0) ≡ 0
+    gone j h (yes z) = rw z (cut-same others 0 (getD order i 0) few room)
+    gone j h (no d) =
+        let other : j ≡ i → ⊥ = λ z. d (ap (λ m. getD order m 0) z) in
+        cut-other others 0 (getD order i 0) 0 (getD order j 0) few (group j (omega arith)) (λ z. d (z .1)) ∙ o .taken j (omega arith)
+
+-- of a full row those that begin it are taken out, so the others are left
+pub others-begun :
+    {n c : ℕ} {t order others others′ : List ℕ} → n ≤ 128 → Placed n t order c → ((g : ℕ) → g < 128 → bit others 0 g ≡ 1) → OthersOf order c others others′ → Others n t others′
+others-begun {n} {c} {t} {order} {others} {others′} few p full o = record { each = λ g l. go g l (ℕ-discrete (getD t g 0) 1) }
   where
-    go : (h : ℕ) → h < g + 1 → Dec (h ≡ g) → bit (cutBit others 0 g) 0 h + getD t h 0 ≡ 1
-    go h k (yes e) = rw e (omega (arith, cut-same others 0 g few room, a, bound))
-    go h k (no d) = omega (arith, cut-other others 0 g 0 h few (omega arith) (λ z. d (z .1)), o .each h (omega arith))
+    go : (g : ℕ) → g < n → Dec (getD t g 0 ≡ 1) → bit others′ 0 g + getD t g 0 ≡ 1
+    go g l (yes z) = let f = p .cover g l z in let gone = rw (f .2) at (o .taken (f .0) (f .1)) in omega (arith, gone)
+    go g l (no d) =
+        let stays = o .left g (omega arith) (λ i h q. d (rw q at (p .marked i h))) in
+        omega (arith, stays, full g (omega arith), p .bits g l)
 
 -- ---- one half of the row of p
 

@@ -75,17 +75,19 @@ pub record Begun (n : ℕ) (la t order t′ order′ : List ℕ) (c : ℕ) : Typ
 
 -- ---- who has not joined yet: the others, as one row of bits
 
-pub record OthersAsk (n : ℕ) (t others : List ℕ) : Type 0 where
-  pub few : n ≤ groupLimit
-  pub t-long : n ≤ length t
-  pub bits : (g : ℕ) → g < n → getD t g 0 ≤ 1
-  pub room : 2 ≤ length others
-
 pub record Others (n : ℕ) (t others : List ℕ) : Type 0 where
   pub each : (g : ℕ) → g < n → bit others 0 g + getD t g 0 ≡ 1
 
-pub record OthersOf (n : ℕ) (t others others′ : List ℕ) : Type 0 where
-  pub who : Others n t others′
+-- what taking the first c groups of an order out of a row asks
+pub record OthersAsk (order : List ℕ) (c : ℕ) (others : List ℕ) : Type 0 where
+  pub few : c ≤ groupLimit
+  pub order-long : c ≤ length order
+  pub group : (i : ℕ) → i < c → getD order i 0 < groupLimit
+  pub room : 2 ≤ length others
+
+pub record OthersOf (order : List ℕ) (c : ℕ) (others others′ : List ℕ) : Type 0 where
+  pub taken : (i : ℕ) → i < c → bit others′ 0 (getD order i 0) ≡ 0
+  pub left : (g : ℕ) → g < groupLimit → ((i : ℕ) → i < c → getD order i 0 ≡ g → ⊥) → bit others′ 0 g ≡ bit others 0 g
   pub long : length others′ ≡ length others
 
 -- ---- who joins: the groups of a word, which are those of one half of a row

@@ -1,6 +1,7 @@
 // Growing the set that drains: it begins with the groups that have a lack, and a group joins where it can pay into it. The order in which they
 // join is the queue of the growing, breadth first, and the way back for a wave.
-use crate::ways::note;
+use bits::FULL;
+use bits::cut;
 use bits::leave;
 use bits::lowest;
 ghost use Rattle.flow.specs.Drains.{Beginnable, BeginRoom, Begun, Begins, OthersAsk, OthersOf, Joinable, Joined, Seeable, SawHalf, Growing, Growable, Grown};
@@ -33,15 +34,15 @@ pub fn begin(n: usize, lack: &[u64], t: &mut [u8], order: &mut [u16]) -> usize
     count
 }
 
-// Who has not joined, as bits.
-fn others_of(n: usize, t: &[u8], others: &mut [u64])
-    requires { ⌜ OthersAsk n (now t) (now others) ⌝ }
-    ensures { λ r. ⌜ OthersOf n (now (t .entry)) (now (others .entry)) (now (others .exit)) ⌝ }
+// Who has not joined, as bits: all but those that begin it.
+fn others_of(order: &[u16], started: usize, others: &mut [u64])
+    requires { ⌜ OthersAsk (now order) started (now others) ⌝ }
+    ensures { λ r. ⌜ OthersOf (now (order .entry)) started (now (others .entry)) (now (others .exit)) ⌝ }
 {
-    let mut g = 0;
-    while g < n {
-        note(g, 0, 1 - t[g] as u64, others);
-        g += 1;
+    let mut i = 0;
+    while i < started {
+        cut(others, 0, order[i] as usize);
+        i += 1;
     }
 }
 
@@ -110,7 +111,7 @@ pub fn grow(n: usize, ways: &[u64], t: &mut [u8], order: &mut [u16], started: us
     requires { ⌜ Growable n (now ways) (now t) (now order) started ⌝ }
     ensures { λ r. ⌜ Grown n (now (ways .entry)) (now (t .entry)) (now (order .entry)) started (now (t .exit)) (now (order .exit)) r ⌝ }
 {
-    let mut others = [0u64; 2];
-    others_of(n, t, &mut others);
+    let mut others = [FULL; 2];
+    others_of(order, started, &mut others);
     grow_into(n, ways, &mut others, t, order, started)
 }
