@@ -14,7 +14,7 @@ use Rattle.survey.specs.Sets.{sum}
 use Rattle.survey.proofs.Sums.{sum-cong, term-le}
 use Rattle.bits.specs.Bits.{digit, without}
 use Rattle.bits.proofs.BitLaws.{digit-bound, zero-digit, lowest-digit, without-same, without-other, without-less}
-use Rattle.flow.specs.Drains.{Placed, Joinable, Joined, Begun, Begins, lacking, level}
+use Rattle.flow.specs.Drains.{Placed, Joinable, Joined, Begun, FirstMark, lacking, level, Begins}
 use Rattle.flow.proofs.SumLaws.{sum-more, sum-change}
 
 -- ---- a list with one place set
@@ -188,6 +188,21 @@ module _ {n half w c₀ : ℕ} {t₀ order₀ : List ℕ} (p : Joinable n half w
           fewer j (yes e) = rw e (omega (arith, without-same left i))
           fewer j (no e) = omega (arith, without-other left i j e, s .part j)
 
+-- what stands at the free place counts for nothing
+free-placed : {n c : ℕ} {t order : List ℕ} (g : ℕ) → Placed n t order c → Placed n t (set order c g) c
+free-placed {n} {c} {t} {order} g p =
+    record {
+      group = λ i h. rw (kept i h) (p .group i h);
+      marked = λ i h. rw (kept i h) (p .marked i h);
+      once = λ i j h k same. p .once i j h k (sym (kept i (omega arith)) ∙ same ∙ kept j k);
+      cover = λ h k m. let f = p .cover h k m in (f .0, f .1, kept (f .0) (f .1) ∙ f .2);
+      bits = p .bits;
+      count = p .count;
+    }
+  where
+    kept : (i : ℕ) → i < c → getD (set order c g) i 0 ≡ getD order i 0
+    kept i h = getD-set-other order c i g 0 (λ q. omega arith)
+
 -- ---- the groups that begin it, one after the other
 
 pub begun-none : (la t order : List ℕ) → Begun 0 la t order t order 0
@@ -232,24 +247,29 @@ level-placed {g} {c} {t} {order} p here =
 pub begun-more :
     {g c c′ : ℕ} {la t₀ order₀ t order t′ order′ : List ℕ} → Begun g la t₀ order₀ t order c → g < length t → c < length order
     → Begins g (getD la g 0) t order c t′ order′ c′ → Begun (g + 1) la t₀ order₀ t′ order′ c′
-begun-more {g} {c} {c′} {la} {t₀} {order₀} {t} {order} b here room (lacking a) =
-    record {
-      placed = rw (set-set t g 0 1) at (joined-placed (level-placed (b .placed) here) (omega arith) (getD-set-same t g 0 0 here) (simp length-set here) room);
-      starts = λ i. set-by order c g (λ i v. i < c + 1 → 0 < getD la v 0) room (λ h. a) (λ j d h. b .starts j (omega arith)) i;
-      holds = λ h. set-by t g 1 (λ h v. h < g + 1 → 0 < getD la h 0 → v ≡ 1) here (λ k m. refl) (λ j d k m. b .holds j (omega arith) m) h;
-      rest = λ h k. getD-set-other t g h 1 0 (λ q. omega arith) ∙ b .rest h (omega arith);
-      t-long = simp length-set (b .t-long);
-      order-long = simp length-set (b .order-long);
-    }
-begun-more {g} {c} {c′} {la} {t₀} {order₀} {t} {order} b here room (level a) =
-    record {
-      placed = level-placed (b .placed) here;
-      starts = b .starts;
-      holds = λ h. set-by t g 0 (λ h v. h < g + 1 → 0 < getD la h 0 → v ≡ 1) here (λ k m. absurd (omega arith)) (λ j d k m. b .holds j (omega arith) m) h;
-      rest = λ h k. getD-set-other t g h 0 0 (λ q. omega arith) ∙ b .rest h (omega arith);
-      t-long = simp length-set (b .t-long);
-      order-long = b .order-long;
-    }
+begun-more {g} {c} {c′} {la} {t₀} {order₀} {t} {order} b here room x = rw (x .marks, x .place, x .count) (go (x .first))
+  where
+    go : {mark : ℕ} → FirstMark (getD la g 0) mark → Begun (g + 1) la t₀ order₀ (set t g mark) (set order c g) (c + mark)
+    go (lacking a) =
+        record {
+          placed = rw (set-set t g 0 1) at (joined-placed (level-placed (b .placed) here) (omega arith) (getD-set-same t g 0 0 here) (simp length-set here) room);
+          starts = λ i. set-by order c g (λ i v. i < c + 1 → 0 < getD la v 0) room (λ h. a) (λ j d h. b .starts j (omega arith)) i;
+          holds = λ h. set-by t g 1 (λ h v. h < g + 1 → 0 < getD la h 0 → v ≡ 1) here (λ k m. refl) (λ j d k m. b .holds j (omega arith) m) h;
+          rest = λ h k. getD-set-other t g h 1 0 (λ q. omega arith) ∙ b .rest h (omega arith);
+          t-long = simp length-set (b .t-long);
+          order-long = simp length-set (b .order-long);
+        }
+    go (level a) =
+        let same : c + 0 ≡ c = omega arith in
+        rw same
+        (record {
+          placed = free-placed g (level-placed (b .placed) here);
+          starts = λ i h. rw (getD-set-other order c i g 0 (λ q. omega arith)) (b .starts i h);
+          holds = λ h. set-by t g 0 (λ h v. h < g + 1 → 0 < getD la h 0 → v ≡ 1) here (λ k m. absurd (omega arith)) (λ j d k m. b .holds j (omega arith) m) h;
+          rest = λ h k. getD-set-other t g h 0 0 (λ q. omega arith) ∙ b .rest h (omega arith);
+          t-long = simp length-set (b .t-long);
+          order-long = simp length-set (b .order-long);
+        })
 
 pub above-0 : {m : ℕ} → (m ≡ 0 → ⊥) → 0 < m
 above-0 d = omega arith

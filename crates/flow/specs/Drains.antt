@@ -52,6 +52,7 @@ pub record Beginnable (g : ℕ) (t order : List ℕ) (c : ℕ) : Type 0 where
   pub few : g < groupLimit
   pub within : g < length t
   pub room : c < length order
+  pub few-begun : c < groupLimit
 
 pub record BeginRoom (n : ℕ) (la t order : List ℕ) : Type 0 where
   pub few : n ≤ groupLimit
@@ -59,10 +60,18 @@ pub record BeginRoom (n : ℕ) (la t order : List ℕ) : Type 0 where
   pub t-long : n ≤ length t
   pub order-long : n ≤ length order
 
--- group g is looked at as the draining begins: it is marked 1 where it has a lack, and then stands at place c
-pub data Begins (g a : ℕ) (t order : List ℕ) (c : ℕ) : List ℕ → List ℕ → ℕ → Type 0 where
-  lacking : 0 < a → Begins g a t order c (set t g 1) (set order c g) (c + 1)
-  level : a ≡ 0 → Begins g a t order c (set t g 0) order c
+-- the mark of a group with the lack a, as the draining begins
+pub data FirstMark (a : ℕ) : ℕ → Type 0 where
+  lacking : 0 < a → FirstMark a 1
+  level : a ≡ 0 → FirstMark a 0
+
+-- group g is looked at as the draining begins: it is marked, and stands at place c, which is still free where the mark is 0
+pub record Begins (g a : ℕ) (t order : List ℕ) (c : ℕ) (t′ order′ : List ℕ) (c′ : ℕ) : Type 0 where
+  pub mark : ℕ
+  pub first : FirstMark a mark
+  pub marks : t′ ≡ set t g mark
+  pub place : order′ ≡ set order c g
+  pub count : c′ ≡ c + mark
 
 -- The groups with a lack begin it: they stand at the first c places, and nobody else.
 pub record Begun (n : ℕ) (la t order t′ order′ : List ℕ) (c : ℕ) : Type 0 where

@@ -4,20 +4,25 @@ use bits::FULL;
 use bits::cut;
 use bits::leave;
 use bits::lowest;
-ghost use Rattle.flow.specs.Drains.{Beginnable, BeginRoom, Begun, Begins, OthersAsk, OthersOf, Joinable, Joined, Seeable, SawHalf, Growing, Growable, Grown};
+ghost use Rattle.flow.specs.Drains.{Beginnable, BeginRoom, Begun, FirstMark, Begins, OthersAsk, OthersOf, Joinable, Joined, Seeable, SawHalf, Growing, Growable, Grown};
 
-// Group g begins it where it has a lack: the next place of the order is then its own.
+// The mark of a group as it begins: 1 where it has a lack.
+fn first_mark(lack: u64) -> u8
+    ensures { λ r. ⌜ FirstMark lack r ⌝ }
+{
+    if 0 < lack { 1 } else { 0 }
+}
+
+// Group g begins it where its mark is 1. Whether it is is not asked: a branch there would go now this way and now that. Where it is 0, the next
+// place of the order is written all the same, and is still free.
 fn begin_at(g: usize, lack: u64, t: &mut [u8], order: &mut [u16], count: usize) -> usize
     requires { ⌜ Beginnable g (now t) (now order) count ⌝ }
     ensures { λ r. ⌜ Begins g lack (now (t .entry)) (now (order .entry)) count (now (t .exit)) (now (order .exit)) r ⌝ }
 {
-    if 0 < lack {
-        t[g] = 1;
-        order[count] = g as u16;
-        return count + 1;
-    }
-    t[g] = 0;
-    count
+    let mark = first_mark(lack);
+    t[g] = mark;
+    order[count] = g as u16;
+    count + mark as usize
 }
 
 // How many groups begin it. They stand first in the order.

@@ -23,7 +23,7 @@ shared-slice-read-begin-at : tie.Need-shared-slice-read-begin-at Inv-loop μ-loo
 shared-slice-read-begin-at c = omega arith
 
 begin-at-requires : tie.Need-begin-at-requires Inv-loop μ-loop
-begin-at-requires c κs = record { few = omega arith; within = omega (arith, c .before .before .before .before .loop .inv .1 .t-long, c .before .before .before .before .loop .inv .1 .order-long, placed-most (c .before .before .before .before .loop .inv .1 .placed)); room = omega (arith, c .before .before .before .before .loop .inv .1 .t-long, c .before .before .before .before .loop .inv .1 .order-long, placed-most (c .before .before .before .before .loop .inv .1 .placed)) }
+begin-at-requires c κs = record { few = omega arith; within = omega (arith, c .before .before .before .before .loop .inv .1 .t-long, c .before .before .before .before .loop .inv .1 .order-long, placed-most (c .before .before .before .before .loop .inv .1 .placed)); room = omega (arith, c .before .before .before .before .loop .inv .1 .t-long, c .before .before .before .before .loop .inv .1 .order-long, placed-most (c .before .before .before .before .loop .inv .1 .placed)); few-begun = omega (arith, placed-most (c .before .before .before .before .loop .inv .1 .placed)) }
 
 add-g : tie.Need-add-g Inv-loop μ-loop
 add-g c = omega arith
