@@ -10,7 +10,7 @@ use native.Mathlib.Numerals.{one-add}
 use lib.Arith.{digits-mod}
 use lib.Pow.{pow-pos, pow-lt, pow-add, split, shl-shr, shr-shr}
 use lib.Bits.{bitAnd, bitOr, bitXor, differ, and-step, or-step, xor-step, and-shr, or-shr, xor-shr}
-use lib.Bits.{or-lt, xor-lt, and-block, and-mask, and-zero-r, or-add-and, xor-add-and}
+use lib.Bits.{or-lt, and-block, and-mask, and-zero-r, or-add-and, xor-add-and}
 use lib.Count.{trailingZeros, under}
 use lib.ListN.{length, getD, set, length-set, replicate, getD-replicate}
 use lib.Seq.{getD-set-same, getD-set-other, set-out}
@@ -70,9 +70,6 @@ module _ (a b i : ℕ) where
 
   pub and-both : digit (bitAnd a b) i ≡ 1 → (digit a i ≡ 1) × (digit b i ≡ 1)
   and-both e = (omega (arith, and-digit, digit-bound a i, digit-bound b i), omega (arith, and-digit, digit-bound a i, digit-bound b i))
-
-  pub both-and : digit a i ≡ 1 → digit b i ≡ 1 → digit (bitAnd a b) i ≡ 1
-  both-and ea eb = omega (arith, and-digit)
 
 -- The digits of r that a has too, and those that it has not, make r.
 pub xor-less : (a r i : ℕ) → digit (bitXor r (bitAnd a r)) i + digit (bitAnd a r) i ≡ digit r i
@@ -152,14 +149,7 @@ module _ (w i : ℕ) where
   pub with-word : w < 2 ^ 64 → i < 64 → with w i < 2 ^ 64
   with-word small h = or-lt 64 w (2 ^ i) small (pow-lt h)
 
-  pub without-word : w < 2 ^ 64 → i < 64 → without w i < 2 ^ 64
-  without-word small h = xor-lt 64 (with w i) (2 ^ i) (with-word small h) (pow-lt h)
-
 -- ---- rows
-
-pub bit-bound : (m : List ℕ) (g h : ℕ) → bit m g h ≤ 1
-unfolding bit
-bit-bound m g h = digit-bound (getD m (2 * g + h / 64) 0) (h % 64)
 
 -- The words of a row hold 64 groups each.
 pub half-bit : (m : List ℕ) (g half i : ℕ) → i < 64 → bit m g (64 * half + i) ≡ digit (getD m (2 * g + half) 0) i

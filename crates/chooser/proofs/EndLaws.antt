@@ -6,7 +6,7 @@ use mathlib.Core.Path.{_≡_, refl, sym, _∙_}
 use mathlib.Core.Bool.{Bool, true, false}
 use mathlib.Core.Logic.{_⊎_, inl, inr}
 use mathlib.Core.List.{List}
-use lib.ListN.{length, getD, replicate, getD-replicate, length-replicate}
+use lib.ListN.{getD, replicate, getD-replicate, length-replicate}
 use borrow.Author.Tests.{eq-eqb}
 use Rattle.survey.specs.Limits.{groupLimit, linkLimit, entryBytes}
 use Rattle.survey.specs.Sets.{Same}

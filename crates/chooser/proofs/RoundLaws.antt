@@ -1,16 +1,15 @@
 -- One round: what it asks of the calls is there, and what they leave is a round of document 01.
-use Prim.Native.Nat.{ℕ, _+_, _*_, _<_, _≤_}
+use Prim.Native.Nat.{ℕ, _+_, _<_, _≤_}
 use native.Mathlib.Nat.{mul-le-mul}
 use native.Mathlib.Omega.{arith}
-use mathlib.Core.Path.{_≡_, refl, sym, _∙_}
-use mathlib.Core.Bool.{Bool, true, false}
+use mathlib.Core.Path.{_≡_, sym, _∙_}
+use mathlib.Core.Bool.{Bool}
 use mathlib.Core.Logic.{_⊎_, inl, inr}
 use mathlib.Core.List.{List}
 use lib.ListN.{length, getD}
-use Rattle.survey.specs.Limits.{groupLimit, linkLimit, sumLimit, amountLimit, entryBytes}
-use Rattle.survey.specs.Survey.{Survey}
+use Rattle.survey.specs.Limits.{groupLimit, linkLimit, amountLimit}
 use Rattle.survey.specs.Sets.{allGroups, sum, total, D, L}
-use Rattle.survey.specs.Rounds.{Weights, weights, WeighsZero}
+use Rattle.survey.specs.Rounds.{weights, WeighsZero}
 use Rattle.survey.specs.Words.{surveyAt, surveyOf, markedSet, amountsOf, lent}
 use Rattle.survey.proofs.SumOrder.{before-or-last}
 use Rattle.survey.proofs.Sums.{sum-cong}
@@ -30,7 +29,7 @@ use Rattle.flow.specs.Drains.{Net}
 use Rattle.flow.specs.Heavy.{Weighed, Weighable, Proves, Heavy}
 use Rattle.flow.proofs.LinkLaws.{survey-given, given-from, given-to, inside-ends}
 use Rattle.flow.proofs.HeavyLaws.{bare-no-cycle}
-use Rattle.chooser.specs.Rounds.{AnyAbove, Listed, Kept, Worked, Round}
+use Rattle.chooser.specs.Rounds.{AnyAbove, Listed, Round}
 
 -- ---- looking for an excess
 

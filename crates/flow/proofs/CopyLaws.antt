@@ -12,7 +12,7 @@ use lib.Dec.{eqb}
 use borrow.Author.Tests.{eqb-true, eqb-false}
 use Rattle.survey.specs.Limits.{entryBytes}
 use Rattle.survey.specs.Survey.{Survey, ComesTo, one, more, Cycle}
-use Rattle.survey.specs.Sets.{Set, sum, only}
+use Rattle.survey.specs.Sets.{Set}
 use Rattle.survey.specs.Rounds.{Weights}
 use Rattle.survey.specs.Balance.{Amounts, gets, pays}
 use Rattle.survey.specs.Words.{amountsOf}

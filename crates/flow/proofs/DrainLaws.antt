@@ -5,7 +5,7 @@ use mathlib.Core.List.{List}
 use mathlib.Core.Bool.{Bool, true, false}
 use native.Mathlib.Omega.{arith}
 use native.Mathlib.Decide.{ℕ-discrete, decLt}
-use lib.ListN.{length, getD, replicate, getD-replicate, List·getD-eq-default, length-replicate}
+use lib.ListN.{length, getD}
 use lib.Seq.{ext-getD}
 use lib.Dec.{eqb, ltb}
 use borrow.Author.Tests.{eqb-true, eqb-false, eq-eqb, ltb-true, ltb-false}
@@ -18,7 +18,6 @@ use Rattle.survey.specs.Rounds.{Weights}
 use Rattle.survey.proofs.BalanceLaw.{lack}
 use Rattle.survey.proofs.Draining.{Obeys, Drains}
 use Rattle.bits.specs.Bits.{bit}
-use Rattle.bits.proofs.BitLaws.{zero-bit}
 use Rattle.flow.specs.Links.{bare}
 use Rattle.flow.specs.Copies.{copied, Copy, Copied, Taken}
 use Rattle.flow.specs.Ways.{Way, pays, gives-back, Ways, WaysFound}
@@ -119,14 +118,6 @@ growth-done {ways = ways} d w =
     }
 
 -- ---- the rows have who can pay
-
--- rows of nobody, as they are before the ways are found
-pub no-ways : (m p g : ℕ) → bit (replicate m 0) p g ≡ 0
-no-ways m p g = zero-bit (replicate m 0) p g (λ i. go i (decLt i m))
-  where
-    go : (i : ℕ) → Dec (i < m) → _≡_ {A = ℕ} (getD (replicate m 0) i 0) 0
-    go i (yes l) = getD-replicate m i 0 0 l
-    go i (no d) = List·getD-eq-default (replicate m 0) 0 (omega (arith, length-replicate {A = ℕ} m 0))
 
 -- what growing along the rows asks
 pub ways-growable :

@@ -5,14 +5,14 @@ use mathlib.Core.Path.{_≡_, refl, sym, _∙_}
 use mathlib.Core.Logic.{_⊎_, inl, inr}
 use mathlib.Core.List.{List}
 use mathlib.Core.Bool.{Bool, true, false}
-use lib.ListN.{length, getD}
+use lib.ListN.{getD}
 use lib.Dec.{eqb, ltb}
 use borrow.Author.Tests.{eqb-true, eqb-false, ltb-true, ltb-false}
 use Rattle.survey.proofs.SumOrder.{sum-le}
 use Rattle.flow.specs.Copies.{endIn, copied, flowing}
 use Rattle.flow.specs.Chains.{IsNext}
 use Rattle.flow.specs.Ways.{Way, pays, gives-back, Noted}
-use Rattle.flow.specs.Sends.{Course, Sends}
+use Rattle.flow.specs.Sends.{Course}
 use Rattle.flow.specs.Waves.{Flowed, Rows, Ran, lacks, Coming, Rises, Passed, fallen, full, onward, Offerable, Offered, kept, took, leastFor, Spillable, Takable, Spilled, none, some, Turnable, Turned, rests, sent}
 use Rattle.flow.proofs.WayLaws.{noted-ways, noted-length}
 use Rattle.flow.proofs.SafeLaws.{Sent, sendable, sends-sent}

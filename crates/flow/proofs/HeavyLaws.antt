@@ -1,5 +1,5 @@
 -- Laws of the heaviest set: what begins it is balanced, and what the waves end with proves it, for each survey that has the links.
-use Prim.Native.Nat.{ℕ, _+_, _*_, _≤_, _<_}
+use Prim.Native.Nat.{ℕ, _*_, _≤_, _<_}
 use native.Mathlib.Omega.{arith}
 use mathlib.Core.Path.{_≡_, refl, sym, ap, _∙_}
 use mathlib.Core.Bool.{Bool, true, false, not}
@@ -15,7 +15,7 @@ use Rattle.survey.specs.Rounds.{Weights}
 use Rattle.survey.specs.Balance.{Amounts, gets, pays, credit, debit}
 use Rattle.survey.specs.Words.{amountsOf, markedSet}
 use Rattle.survey.proofs.Reaching.{Inside}
-use Rattle.survey.proofs.Sums.{sum-cong, sum-zero}
+use Rattle.survey.proofs.Sums.{sum-zero}
 use Rattle.survey.proofs.SameSets.{heaviest-same}
 use Rattle.survey.proofs.Unique as unique
 use Rattle.survey.proofs.Draining.{Drains, drained-heaviest}

@@ -50,9 +50,6 @@ module _ {s : Survey} {n e : ℕ} {l : List ℕ} (v : Given s n e l) where
   pub given-below : {k : ℕ} → k < s .e → k < e
   given-below h = rw (v .count) h
 
-  pub given-group : {g : ℕ} → g < s .n → g < n
-  given-group h = rw (v .groups) h
-
   -- the links of the list end in groups exactly where those of the survey do
   pub inside-ends : Inside s → (k : ℕ) → k < e → (endOf l 0 k < n) × (endOf l 4 k < n)
   inside-ends i k h =

@@ -3,14 +3,14 @@ use Prim.Native.Nat.{ℕ, _+_, _*_, _<_, _≤_}
 use mathlib.Core.Path.{_≡_, refl, sym, ap, ap₂, _∙_}
 use mathlib.Core.Logic.{_⊎_, inl, inr}
 use mathlib.Core.List.{List}
-use native.Mathlib.Decide.{ℕ-discrete}
+use native.Mathlib.Decide.{ℕ-discrete, decLt}
 use native.Mathlib.Omega.{arith}
-use lib.ListN.{length}
+use lib.ListN.{length, getD, replicate, getD-replicate, List·getD-eq-default, length-replicate}
 use Rattle.survey.specs.Limits.{groupLimit}
 use Rattle.survey.specs.Survey.{Survey, one, more, Cycle}
 use Rattle.survey.specs.Balance.{Amounts}
 use Rattle.bits.specs.Bits.{bit, putBit, cutBit}
-use Rattle.bits.proofs.BitLaws.{put-length, cut-length, put-same, put-other, cut-same, cut-other}
+use Rattle.bits.proofs.BitLaws.{zero-bit, put-length, cut-length, put-same, put-other, cut-same, cut-other}
 use Rattle.flow.specs.Copies.{endIn, copied, Copy}
 use Rattle.flow.specs.Ways.{Way, pays, gives-back, Ways, Noted, stands, fails, Findable, Found, both-ways, one-way}
 
@@ -55,6 +55,14 @@ module _ (m : List ℕ) (g h : ℕ) (small : h < groupLimit) where
       go (inr d) = inr (sym (put-other m g h g′ h′ small small′ d) ∙ has)
 
 -- ---- link after link
+
+-- rows of nobody, as they are before the ways are found
+pub no-ways : (m p g : ℕ) → bit (replicate m 0) p g ≡ 0
+no-ways m p g = zero-bit (replicate m 0) p g (λ i. go i (decLt i m))
+  where
+    go : (i : ℕ) → Dec (i < m) → _≡_ {A = ℕ} (getD (replicate m 0) i 0) 0
+    go i (yes l) = getD-replicate m i 0 0 l
+    go i (no d) = List·getD-eq-default (replicate m 0) 0 (omega (arith, length-replicate {A = ℕ} m 0))
 
 pub ways-none : {s : Survey} {x : Amounts} {ways : List ℕ} → ((p g : ℕ) → bit ways p g ≡ 0) → Ways s x 0 ways
 ways-none blank = record { sound = λ p g small has. absurd (omega (arith, blank p g)); complete = λ k g p below way. absurd (omega arith) }

@@ -2,7 +2,6 @@
 use Rattle.weights.proofs.PutLaws.{put-none, put-more}
 use lib.ListN.{getD}
 use Rattle.weights.specs.Put.{PutFirst}
-use denote.Ref.{now}
 use native.Mathlib.Omega.{arith}
 use mathlib.Core.Path.{_≡_, refl}
 use Prim.Native.Nat.{_≤_, _-_}

@@ -1,7 +1,8 @@
 -- `flow::draining::drained` meets its contract: what was copied, the ways, what begins and what has grown, by `drained-law`. Assumes nothing.
 use native.Mathlib.Omega.{arith}
 use Rattle.flow.proofs.CopyLaws.{net-copyable, net-copy}
-use Rattle.flow.proofs.DrainLaws.{no-ways, ways-growable, drained-law}
+use Rattle.flow.proofs.WayLaws.{no-ways}
+use Rattle.flow.proofs.DrainLaws.{ways-growable, drained-law}
 use borrow.Author.Needs.{needs}
 use Rattle.flow.proofs.draining.drained.Statement.{statement}
 use Rattle.flow.proofs.draining.drained.Tie as tie

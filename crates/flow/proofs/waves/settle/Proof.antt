@@ -4,7 +4,7 @@ use mathlib.Core.Logic.{inl, inr}
 use native.Mathlib.Omega.{arith}
 use lib.ListN.{getD-replicate}
 use Rattle.survey.specs.Limits.{groupLimit}
-use Rattle.flow.proofs.DrainLaws.{no-ways}
+use Rattle.flow.proofs.WayLaws.{no-ways}
 use Rattle.flow.proofs.TideLaws.{settle-chainable, settle-ask, settled}
 use borrow.Author.Needs.{needs}
 use Rattle.flow.proofs.waves.settle.Statement.{statement}
