@@ -10,7 +10,7 @@ use lib.Dec.{eqb, ltb}
 use borrow.Author.Tests.{eqb-true, eqb-false, ltb-true, ltb-false}
 use Rattle.survey.proofs.SumOrder.{sum-le}
 use Rattle.flow.specs.Copies.{endIn, copied, flowing}
-use Rattle.flow.specs.Chains.{IsNext}
+use Rattle.flow.specs.Chains.{IsNext, headAt, nextAt}
 use Rattle.flow.specs.Ways.{Way, pays, gives-back, Noted}
 use Rattle.flow.specs.Sends.{Course}
 use Rattle.flow.specs.Waves.{Flowed, Rows, Ran, lacks, Coming, Rises, Passed, fallen, full, onward, Offerable, Offered, kept, took, leastFor, Spillable, Takable, Spilled, none, some, Turnable, Turned, rests, sent}
@@ -113,10 +113,17 @@ pub record Spilling (n e end g : ℕ) (ends amounts₀ ex₀ la₀ ways₀ t amo
   pub within : k ≤ e
   pub hit : k < e → endIn ends end k ≡ g
 
-module _ {n e end g : ℕ} {ends head next amounts₀ ex₀ la₀ ways₀ t : List ℕ} (p : Spillable n e end g ends head next amounts₀ ex₀ la₀ ways₀ t) where
-  pub spill-begins : Spilling n e end g ends amounts₀ ex₀ la₀ ways₀ t amounts₀ ex₀ la₀ ways₀ (getD head g 0)
+module _ {n e end g : ℕ} {ends chains amounts₀ ex₀ la₀ ways₀ t : List ℕ} (p : Spillable n e end g ends chains amounts₀ ex₀ la₀ ways₀ t) where
+  pub spill-small : end ≤ 1
+  spill-small = go (p .which)
+    where
+      go : (end ≡ 0) ⊎ (end ≡ 1) → end ≤ 1
+      go (inl z) = omega arith
+      go (inr z) = omega arith
+
+  pub spill-begins : Spilling n e end g ends amounts₀ ex₀ la₀ ways₀ t amounts₀ ex₀ la₀ ways₀ (getD chains (headAt end g) 0)
   spill-begins =
-      let h = p .index .chains .heads g (p .below) in
+      let h = p .index .heads g (p .below) in
       record { spilled = none (λ pos j l x. h .first j (omega arith) l (x .hit)); within = h .within; hit = h .hit }
 
   module _ {amounts ex la ways : List ℕ} {k q : ℕ} (w : Spilling n e end g ends amounts₀ ex₀ la₀ ways₀ t amounts ex la ways k) (l : k < e) (z : q ≡ endIn ends (1 - end) k) where
@@ -169,17 +176,17 @@ module _ {n e end g : ℕ} {ends head next amounts₀ ex₀ la₀ ways₀ t : Li
     -- the links before the next one of the chain are those before k, and k
     pub spill-on :
         {amounts′ ex′ la′ ways′ : List ℕ} → 0 < getD ex g 0 → Offered k g q (leastFor end) ends amounts ex la ways t amounts′ ex′ la′ ways′
-        → Spilling n e end g ends amounts₀ ex₀ la₀ ways₀ t amounts′ ex′ la′ ways′ (getD next k 0)
+        → Spilling n e end g ends amounts₀ ex₀ la₀ ways₀ t amounts′ ex′ la′ ways′ (getD chains (nextAt end k) 0)
     spill-on pos o =
         record { spilled = go (w .spilled) (step o); within = after .within; hit = λ h. after .hit h ∙ w .hit l }
       where
-        after : IsNext e (endIn ends end) (endIn ends end k) (k + 1) (getD next k 0)
-        after = p .index .chains .nexts k l
+        after : IsNext e (endIn ends end) (endIn ends end k) (k + 1) (getD chains (nextAt end k) 0)
+        after = p .index .nexts k l
 
         -- nobody takes anything before the next link of the chain
         dry-before :
             ((j : ℕ) → j < k → Takable end g ends amounts₀ t j → ⊥) → (Coming t q → leastFor end ≤ flowing amounts₀ k → ⊥)
-            → (j : ℕ) → j < getD next k 0 → Takable end g ends amounts₀ t j → ⊥
+            → (j : ℕ) → j < getD chains (nextAt end k) 0 → Takable end g ends amounts₀ t j → ⊥
         dry-before before here j h x = at (ltb j k) refl (eqb j k) refl
           where
             at : (a : Bool) → ltb j k ≡ a → (b : Bool) → eqb j k ≡ b → ⊥
@@ -198,7 +205,7 @@ module _ {n e end g : ℕ} {ends head next amounts₀ ex₀ la₀ ways₀ t : Li
         go :
             {amounts ex la ways amounts′ ex′ la′ ways′ : List ℕ} → Spilled n e k end g ends amounts₀ ex₀ la₀ ways₀ t amounts ex la ways
             → Step n e k end g q ends amounts ex la ways t amounts′ ex′ la′ ways′
-            → Spilled n e (getD next k 0) end g ends amounts₀ ex₀ la₀ ways₀ t amounts′ ex′ la′ ways′
+            → Spilled n e (getD chains (nextAt end k) 0) end g ends amounts₀ ex₀ la₀ ways₀ t amounts′ ex′ la′ ways′
         go (none dry) (stays shut) = none (λ pos. dry-before (dry pos) shut)
         go (none dry) (goes r up x) = some r up x
         go (some r up x) (stays shut) = some r up x
@@ -221,12 +228,12 @@ module _ {n e end g : ℕ} {ends head next amounts₀ ex₀ la₀ ways₀ t : Li
 
 -- ---- the turn
 
-module _ {n e g : ℕ} {ends fh fn th tn amounts ex la ways t : List ℕ} (c : Turnable n e g ends fh fn th tn amounts ex la ways t) where
-  pub turn-forth : Spillable n e 0 g ends fh fn amounts ex la ways t
+module _ {n e g : ℕ} {ends chains amounts ex la ways t : List ℕ} (c : Turnable n e g ends chains amounts ex la ways t) where
+  pub turn-forth : Spillable n e 0 g ends chains amounts ex la ways t
   turn-forth = record { course = c .course; rows = c .rows; below = c .below; which = inl refl; index = c .forth; t-long = c .t-long }
 
   module _ {amounts′ ex′ la′ ways′ : List ℕ} (first : Spilled n e e 0 g ends amounts ex la ways t amounts′ ex′ la′ ways′) where
-    pub turn-back : Spillable n e 1 g ends th tn amounts′ ex′ la′ ways′ t
+    pub turn-back : Spillable n e 1 g ends chains amounts′ ex′ la′ ways′ t
     turn-back =
         let r = spilled-ran first in
         record { course = course-after (c .course) (r .flowed); rows = r .rows (c .rows); below = c .below; which = inr refl; index = c .back; t-long = c .t-long }

@@ -14,12 +14,13 @@ use Rattle.survey.specs.Balance.{Amounts}
 use Rattle.survey.specs.Words.{markedSet}
 use Rattle.survey.proofs.Reaching.{Inside}
 use Rattle.flow.specs.Copies.{endIn}
-use Rattle.flow.specs.Chains.{Chainable, Chained}
+use Rattle.flow.specs.Chains.{headAt, nextAt, Chainable, Chained}
 use Rattle.flow.specs.Ways.{WaysFound}
 use Rattle.flow.specs.Drains.{Growable, Begun, Grown, Least}
 use Rattle.flow.specs.Waves.{unmarked, Remarked, Apartable, SetApart, Pourable, Still, Poured, WavesAsk, Wavable, Dry, Waved, WavedOnce, WavedAll, SettleAsk, Settled}
 use Rattle.flow.proofs.JoinLaws.{placed-most}
 use Rattle.flow.proofs.DrainLaws.{ways-growable, grown-hops, grown-least}
+use Rattle.flow.proofs.ChainLaws.{other-head, index-stays}
 use Rattle.flow.proofs.SafeLaws.{net-inside}
 use Rattle.flow.proofs.ApartLaws.{apart-coming, apart-remarked, apart-ahead, apart-began}
 use Rattle.flow.proofs.FlowLaws.{ran-none, ran-on, course-after, lack-no-excess}
@@ -52,7 +53,7 @@ bit {u} h = go (eqb u 1) refl
         let none : u ≡ 0 = omega arith in
         rw none
 
-module _ {n e c : ℕ} {ends fh fn th tn amounts ex la ways t₀ order₀ t₁ order₁ : List ℕ} (p : Wavable n e ends fh fn th tn amounts ex la ways t₀ order₀) (b : Begun n la t₀ order₀ t₁ order₁ c) where
+module _ {n e c : ℕ} {ends chains amounts ex la ways t₀ order₀ t₁ order₁ : List ℕ} (p : Wavable n e ends chains amounts ex la ways t₀ order₀) (b : Begun n la t₀ order₀ t₁ order₁ c) where
   pub wave-growable : Growable n ways t₁ order₁ c
   wave-growable =
       ways-growable (p .ask .course .net) (p .ask .rows .right) (p .ask .rows .long) (b .placed) (omega (arith, b .t-long, p .ask .t-long))
@@ -71,7 +72,7 @@ module _ {n e c : ℕ} {ends fh fn th tn amounts ex la ways t₀ order₀ t₁ o
           within = λ i h. omega (arith, w .grew .placed .group i (omega (arith, w .grew .more)), b .t-long, w .grew .t-long, p .ask .t-long);
         }
 
-    pub wave-pourable : {t : List ℕ} → SetApart t₂ order₂ c t → Pourable n e ends fh fn th tn amounts ex la ways t order₂ c c′
+    pub wave-pourable : {t : List ℕ} → SetApart t₂ order₂ c t → Pourable n e ends chains amounts ex la ways t order₂ c c′
     wave-pourable a =
         record {
           course = p .ask .course;
@@ -137,8 +138,8 @@ pub waved-on :
 waved-on a b = record { ran = ran-on (a .ran) (b .ran); rest = λ g h. b .rest g h ∙ a .rest g h; long = b .long ∙ a .long }
 
 pub ask-after :
-    {n e : ℕ} {ends fh fn th tn amounts ex la ways t amounts′ ex′ la′ ways′ t′ : List ℕ} → WavesAsk n e ends fh fn th tn amounts ex la ways t
-    → Waved n e ends amounts ex la ways t amounts′ ex′ la′ ways′ t′ → WavesAsk n e ends fh fn th tn amounts′ ex′ la′ ways′ t′
+    {n e : ℕ} {ends chains amounts ex la ways t amounts′ ex′ la′ ways′ t′ : List ℕ} → WavesAsk n e ends chains amounts ex la ways t
+    → Waved n e ends amounts ex la ways t amounts′ ex′ la′ ways′ t′ → WavesAsk n e ends chains amounts′ ex′ la′ ways′ t′
 ask-after p w =
     record {
       course = course-after (p .course) (w .ran .flowed);
@@ -151,15 +152,14 @@ ask-after p w =
 -- ---- with what the waves go by
 
 module _ {n e : ℕ} {ends amounts ex la t : List ℕ} (p : SettleAsk n e ends amounts ex la t) where
-  pub settle-chainable :
-      {end : ℕ} {head next : List ℕ} → (end ≡ 0) ⊎ (end ≡ 1) → n ≤ length head → e ≤ length next → ((g : ℕ) → g < n → getD head g 0 ≡ e) → Chainable ends n e end head next
-  settle-chainable {end} which head-long next-long empty =
+  pub settle-chainable : {end : ℕ} {chains : List ℕ} → (end ≡ 0) ⊎ (end ≡ 1) → nextAt 2 0 ≤ length chains → ((g : ℕ) → g < n → getD chains (headAt end g) 0 ≡ e) → Chainable ends n e end chains
+  settle-chainable {end} which long empty =
       record {
-        few = p .course .net .few-links;
+        few-groups = p .course .net .few-groups;
+        few-links = p .course .net .few-links;
         small = small which;
         ends-long = p .course .net .ends-long;
-        head-long = head-long;
-        next-long = next-long;
+        long = long;
         below = below which;
         empty = empty;
       }
@@ -172,17 +172,20 @@ module _ {n e : ℕ} {ends amounts ex la t : List ℕ} (p : SettleAsk n e ends a
       below (inl z) = rw z (p .course .net .from)
       below (inr z) = rw z (p .course .net .to)
 
-  pub settle-ask :
-      {ways₀ ways fh₀ fn₀ th₀ tn₀ fh fn th tn : List ℕ} → 2 * n ≤ length ways₀ → WaysFound n e ends amounts ways₀ ways → Chained ends n e 0 fh₀ fn₀ fh fn → Chained ends n e 1 th₀ tn₀ th tn
-      → WavesAsk n e ends fh fn th tn amounts ex la ways t
-  settle-ask room f forth back =
-      record {
-        course = p .course;
-        rows = record { right = f .found; long = omega (arith, f .long) };
-        forth = forth .index;
-        back = back .index;
-        t-long = p .t-long;
-      }
+  module _ {chains₀ chains₁ : List ℕ} (first : Chained ends n e 0 chains₀ chains₁) where
+    -- by the other end the chains are empty still
+    pub settle-empty : ((i : ℕ) → i < nextAt 0 0 → getD chains₀ i 0 ≡ e) → (g : ℕ) → g < n → getD chains₁ (headAt 1 g) 0 ≡ e
+    settle-empty empty g l = first .else (headAt 1 g) (other-head (omega (arith, p .course .net .few-groups))) ∙ empty (headAt 1 g) (omega (arith, p .course .net .few-groups))
+
+    pub settle-ask : {chains ways₀ ways : List ℕ} → 2 * n ≤ length ways₀ → WaysFound n e ends amounts ways₀ ways → Chained ends n e 1 chains₁ chains → WavesAsk n e ends chains amounts ex la ways t
+    settle-ask room f second =
+        record {
+          course = p .course;
+          rows = record { right = f .found; long = omega (arith, f .long) };
+          forth = index-stays (p .course .net .few-groups) (p .course .net .few-links) (first .index) second;
+          back = second .index;
+          t-long = p .t-long;
+        }
 
 pub settled : {n e : ℕ} {ends amounts ex la ways t amounts′ ex′ la′ ways′ t′ : List ℕ} → WavedAll n e ends amounts ex la ways t amounts′ ex′ la′ ways′ t′ → Settled n e ends amounts ex la t amounts′ ex′ la′ t′
 settled w = record { flowed = w .waved .ran .flowed; rest = w .waved .rest; long = w .waved .long; done = w .done }

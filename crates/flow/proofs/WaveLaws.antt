@@ -64,7 +64,7 @@ pub record Pouring (n e : ℕ) (ends amounts₀ ex₀ la₀ ways₀ t₀ order :
   pub ahead : Ahead n t order i
   pub went : Went n amounts₀ ex₀ la₀ amounts ex la order count i r
 
-module _ {n e started count : ℕ} {ends fh fn th tn amounts₀ ex₀ la₀ ways₀ t₀ order : List ℕ} (p : Pourable n e ends fh fn th tn amounts₀ ex₀ la₀ ways₀ t₀ order started count) where
+module _ {n e started count : ℕ} {ends chains amounts₀ ex₀ la₀ ways₀ t₀ order : List ℕ} (p : Pourable n e ends chains amounts₀ ex₀ la₀ ways₀ t₀ order started count) where
   pub pour-begins : Pouring n e ends amounts₀ ex₀ la₀ ways₀ t₀ order started count amounts₀ ex₀ la₀ ways₀ t₀ 0 count
   pour-begins =
       record {
@@ -99,7 +99,7 @@ module _ {n e started count : ℕ} {ends fh fn th tn amounts₀ ex₀ la₀ ways
         set-by t (getD order i 0) 2 (λ h v. h < n → v ≡ 3 → 0 < getD la₀ h 0) (omega (arith, p .group i within, room)) (λ l z. absurd (omega arith)) (λ j d. w .began j)
 
     -- the group at place i is passed, and one before it stands at the other end of its link
-    pub pour-turnable : Turnable n e (getD order i 0) ends fh fn th tn amounts ex la ways (set t (getD order i 0) 2)
+    pub pour-turnable : Turnable n e (getD order i 0) ends chains amounts ex la ways (set t (getD order i 0) 2)
     pour-turnable =
         record {
           course = course-after (p .course) (w .ran .flowed);

@@ -88,12 +88,12 @@ abbrev pub leastFor : ℕ → ℕ
 leastFor end = only (eqb end 0) 1
 
 -- along one of the chains of g
-pub record Spillable (n e end g : ℕ) (ends head next amounts ex la ways t : List ℕ) : Type 0 where
+pub record Spillable (n e end g : ℕ) (ends chains amounts ex la ways t : List ℕ) : Type 0 where
   pub course : Course n e ends amounts ex la
   pub rows : Rows n e ends amounts ways
   pub below : g < n
   pub which : (end ≡ 0) ⊎ (end ≡ 1)
-  pub index : Index n e (endIn ends end) head next
+  pub index : Index n e end (endIn ends end) chains
   pub t-long : n ≤ length t
 
 -- through link k of g, by that end, there is something to send
@@ -110,7 +110,7 @@ pub data Spilled (n e m end g : ℕ) (ends amounts ex la ways t : List ℕ) : Li
       → Spilled n e m end g ends amounts ex la ways t amounts′ ex′ la′ ways′
 
 -- g can pay into p, which is still to come, through link k
-pub record Turnable (n e g : ℕ) (ends from-head from-next to-head to-next amounts ex la ways t : List ℕ) : Type 0 where
+pub record Turnable (n e g : ℕ) (ends chains amounts ex la ways t : List ℕ) : Type 0 where
   pub course : Course n e ends amounts ex la
   pub rows : Rows n e ends amounts ways
   pub below : g < n
@@ -119,8 +119,8 @@ pub record Turnable (n e g : ℕ) (ends from-head from-next to-head to-next amou
   pub p : ℕ
   pub way : Way (copied n e ends) (flowing amounts) k g p
   pub mark : Coming t p
-  pub forth : Index n e (endIn ends 0) from-head from-next
-  pub back : Index n e (endIn ends 1) to-head to-next
+  pub forth : Index n e 0 (endIn ends 0) chains
+  pub back : Index n e 1 (endIn ends 1) chains
   pub t-long : n ≤ length t
 
 -- it had nothing to send and nothing changes; or it has sent
@@ -145,11 +145,11 @@ pub record SetApart (t order : List ℕ) (c : ℕ) (t′ : List ℕ) : Type 0 wh
 
 -- ---- all turns, back through the order to the groups that began it
 
-pub record Pourable (n e : ℕ) (ends from-head from-next to-head to-next amounts ex la ways t order : List ℕ) (started count : ℕ) : Type 0 where
+pub record Pourable (n e : ℕ) (ends chains amounts ex la ways t order : List ℕ) (started count : ℕ) : Type 0 where
   pub course : Course n e ends amounts ex la
   pub rows : Rows n e ends amounts ways
-  pub forth : Index n e (endIn ends 0) from-head from-next
-  pub back : Index n e (endIn ends 1) to-head to-next
+  pub forth : Index n e 0 (endIn ends 0) chains
+  pub back : Index n e 1 (endIn ends 1) chains
   pub more : started ≤ count
   pub most : count ≤ n
   pub group : (j : ℕ) → j < count → getD order j 0 < n
@@ -177,15 +177,15 @@ pub record Poured (n e : ℕ) (ends amounts ex la ways t order : List ℕ) (star
 
 -- ---- a wave, and all waves
 
-pub record WavesAsk (n e : ℕ) (ends from-head from-next to-head to-next amounts ex la ways t : List ℕ) : Type 0 where
+pub record WavesAsk (n e : ℕ) (ends chains amounts ex la ways t : List ℕ) : Type 0 where
   pub course : Course n e ends amounts ex la
   pub rows : Rows n e ends amounts ways
-  pub forth : Index n e (endIn ends 0) from-head from-next
-  pub back : Index n e (endIn ends 1) to-head to-next
+  pub forth : Index n e 0 (endIn ends 0) chains
+  pub back : Index n e 1 (endIn ends 1) chains
   pub t-long : n ≤ length t
 
-pub record Wavable (n e : ℕ) (ends from-head from-next to-head to-next amounts ex la ways t order : List ℕ) : Type 0 where
-  pub ask : WavesAsk n e ends from-head from-next to-head to-next amounts ex la ways t
+pub record Wavable (n e : ℕ) (ends chains amounts ex la ways t order : List ℕ) : Type 0 where
+  pub ask : WavesAsk n e ends chains amounts ex la ways t
   pub order-long : n ≤ length order
 
 -- what the marks say is done: those that aren't 0 are the least set that drains, and it has no excess

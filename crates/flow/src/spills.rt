@@ -2,6 +2,8 @@
 // nothing is left, so that a wave carries as much as it can, and fewer are needed.
 use crate::ends::end_in;
 use crate::sends::send;
+use crate::sizes::GROUPS;
+use crate::sizes::LINKS;
 use crate::ways::note;
 ghost use mathlib.Core.Path.{_≡_};
 ghost use Rattle.flow.specs.Waves.{Offerable, Offered, leastFor, Spillable, Spilled};
@@ -49,25 +51,24 @@ pub fn spill(
     end: usize,
     g: usize,
     ends: &[u8],
-    head: &[u16],
-    next: &[u16],
+    chains: &[u16],
     amounts: &mut [u64],
     excess: &mut [u64],
     lack: &mut [u64],
     ways: &mut [u64],
     t: &[u8],
 )
-    requires { ⌜ Spillable n e end g (now ends) (now head) (now next) (now amounts) (now excess) (now lack) (now ways) (now t) ⌝ }
+    requires { ⌜ Spillable n e end g (now ends) (now chains) (now amounts) (now excess) (now lack) (now ways) (now t) ⌝ }
     ensures { λ r. ⌜ Spilled n e e end g (now (ends .entry)) (now (amounts .entry)) (now (excess .entry)) (now (lack .entry)) (now (ways .entry)) (now (t .entry)) (now (amounts .exit)) (now (excess .exit)) (now (lack .exit)) (now (ways .exit)) ⌝ }
 {
     let least = least_for(end);
-    let mut k = head[g] as usize;
+    let mut k = chains[GROUPS * end + g] as usize;
     while k < e {
         if excess[g] == 0 {
             return;
         }
         let q = end_in(ends, k, 1 - end);
         offer(k, g, q, least, ends, amounts, excess, lack, ways, t);
-        k = next[k] as usize;
+        k = chains[2 * GROUPS + LINKS * end + k] as usize;
     }
 }

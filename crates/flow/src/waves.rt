@@ -3,8 +3,8 @@
 use crate::chains::chain;
 use crate::drains::begin;
 use crate::drains::grow;
+use crate::sizes::CHAINS;
 use crate::sizes::GROUPS;
-use crate::sizes::LINKS;
 use crate::sizes::ROWS;
 use crate::spills::spill;
 use crate::ways::find_ways;
@@ -30,50 +30,21 @@ fn turn(
     e: usize,
     g: usize,
     ends: &[u8],
-    from_head: &[u16],
-    from_next: &[u16],
-    to_head: &[u16],
-    to_next: &[u16],
+    chains: &[u16],
     amounts: &mut [u64],
     excess: &mut [u64],
     lack: &mut [u64],
     ways: &mut [u64],
     t: &[u8],
 ) -> usize
-    requires { ⌜ Turnable n e g (now ends) (now «from_head») (now «from_next») (now «to_head») (now «to_next») (now amounts) (now excess) (now lack) (now ways) (now t) ⌝ }
+    requires { ⌜ Turnable n e g (now ends) (now chains) (now amounts) (now excess) (now lack) (now ways) (now t) ⌝ }
     ensures { λ r. ⌜ Turned n e g (now (ends .entry)) (now (amounts .entry)) (now (excess .entry)) (now (lack .entry)) (now (ways .entry)) (now (t .entry)) (now (amounts .exit)) (now (excess .exit)) (now (lack .exit)) (now (ways .exit)) r ⌝ }
 {
     if excess[g] == 0 {
         return 0;
     }
-    spill(
-        n,
-        e,
-        0,
-        g,
-        ends,
-        from_head,
-        from_next,
-        amounts,
-        excess,
-        lack,
-        ways,
-        t,
-    );
-    spill(
-        n,
-        e,
-        1,
-        g,
-        ends,
-        to_head,
-        to_next,
-        amounts,
-        excess,
-        lack,
-        ways,
-        t,
-    );
+    spill(n, e, 0, g, ends, chains, amounts, excess, lack, ways, t);
+    spill(n, e, 1, g, ends, chains, amounts, excess, lack, ways, t);
     1
 }
 
@@ -83,10 +54,7 @@ fn pour(
     n: usize,
     e: usize,
     ends: &[u8],
-    from_head: &[u16],
-    from_next: &[u16],
-    to_head: &[u16],
-    to_next: &[u16],
+    chains: &[u16],
     amounts: &mut [u64],
     excess: &mut [u64],
     lack: &mut [u64],
@@ -96,7 +64,7 @@ fn pour(
     started: usize,
     count: usize,
 ) -> usize
-    requires { ⌜ Pourable n e (now ends) (now «from_head») (now «from_next») (now «to_head») (now «to_next») (now amounts) (now excess) (now lack) (now ways) (now t) (now order) started count ⌝ }
+    requires { ⌜ Pourable n e (now ends) (now chains) (now amounts) (now excess) (now lack) (now ways) (now t) (now order) started count ⌝ }
     ensures { λ r. ⌜ Poured n e (now (ends .entry)) (now (amounts .entry)) (now (excess .entry)) (now (lack .entry)) (now (ways .entry)) (now (t .entry)) (now (order .entry)) started count (now (amounts .exit)) (now (excess .exit)) (now (lack .exit)) (now (ways .exit)) (now (t .exit)) r ⌝ }
 {
     let mut sent = 0;
@@ -105,21 +73,7 @@ fn pour(
         i -= 1;
         let g = order[i] as usize;
         t[g] = 2;
-        sent += turn(
-            n,
-            e,
-            g,
-            ends,
-            from_head,
-            from_next,
-            to_head,
-            to_next,
-            amounts,
-            excess,
-            lack,
-            ways,
-            t,
-        );
+        sent += turn(n, e, g, ends, chains, amounts, excess, lack, ways, t);
     }
     sent
 }
@@ -129,10 +83,7 @@ fn wave(
     n: usize,
     e: usize,
     ends: &[u8],
-    from_head: &[u16],
-    from_next: &[u16],
-    to_head: &[u16],
-    to_next: &[u16],
+    chains: &[u16],
     amounts: &mut [u64],
     excess: &mut [u64],
     lack: &mut [u64],
@@ -140,7 +91,7 @@ fn wave(
     t: &mut [u8],
     order: &mut [u16],
 ) -> usize
-    requires { ⌜ Wavable n e (now ends) (now «from_head») (now «from_next») (now «to_head») (now «to_next») (now amounts) (now excess) (now lack) (now ways) (now t) (now order) ⌝ }
+    requires { ⌜ Wavable n e (now ends) (now chains) (now amounts) (now excess) (now lack) (now ways) (now t) (now order) ⌝ }
     ensures { λ r. ⌜ WavedOnce n e (now (ends .entry)) (now (amounts .entry)) (now (excess .entry)) (now (lack .entry)) (now (ways .entry)) (now (t .entry)) (now (order .entry)) (now (amounts .exit)) (now (excess .exit)) (now (lack .exit)) (now (ways .exit)) (now (t .exit)) (now (order .exit)) r ⌝ }
 {
     let started = begin(n, lack, t, order);
@@ -150,10 +101,7 @@ fn wave(
         n,
         e,
         ends,
-        from_head,
-        from_next,
-        to_head,
-        to_next,
+        chains,
         amounts,
         excess,
         lack,
@@ -170,17 +118,14 @@ fn waves(
     n: usize,
     e: usize,
     ends: &[u8],
-    from_head: &[u16],
-    from_next: &[u16],
-    to_head: &[u16],
-    to_next: &[u16],
+    chains: &[u16],
     amounts: &mut [u64],
     excess: &mut [u64],
     lack: &mut [u64],
     ways: &mut [u64],
     t: &mut [u8],
 )
-    requires { ⌜ WavesAsk n e (now ends) (now «from_head») (now «from_next») (now «to_head») (now «to_next») (now amounts) (now excess) (now lack) (now ways) (now t) ⌝ }
+    requires { ⌜ WavesAsk n e (now ends) (now chains) (now amounts) (now excess) (now lack) (now ways) (now t) ⌝ }
     ensures { λ r. ⌜ WavedAll n e (now (ends .entry)) (now (amounts .entry)) (now (excess .entry)) (now (lack .entry)) (now (ways .entry)) (now (t .entry)) (now (amounts .exit)) (now (excess .exit)) (now (lack .exit)) (now (ways .exit)) (now (t .exit)) ⌝ }
 {
     let mut order = [0u16; GROUPS];
@@ -189,10 +134,7 @@ fn waves(
             n,
             e,
             ends,
-            from_head,
-            from_next,
-            to_head,
-            to_next,
+            chains,
             amounts,
             excess,
             lack,
@@ -219,26 +161,10 @@ pub fn settle(
     requires { ⌜ SettleAsk n e (now ends) (now amounts) (now excess) (now lack) (now t) ⌝ }
     ensures { λ r. ⌜ Settled n e (now (ends .entry)) (now (amounts .entry)) (now (excess .entry)) (now (lack .entry)) (now (t .entry)) (now (amounts .exit)) (now (excess .exit)) (now (lack .exit)) (now (t .exit)) ⌝ }
 {
-    let mut from_head = [e as u16; GROUPS];
-    let mut from_next = [0u16; LINKS];
-    chain(ends, n, e, 0, &mut from_head, &mut from_next);
-    let mut to_head = [e as u16; GROUPS];
-    let mut to_next = [0u16; LINKS];
-    chain(ends, n, e, 1, &mut to_head, &mut to_next);
+    let mut chains = [e as u16; CHAINS];
+    chain(ends, n, e, 0, &mut chains);
+    chain(ends, n, e, 1, &mut chains);
     let mut ways = [0u64; ROWS];
     find_ways(n, e, ends, amounts, &mut ways);
-    waves(
-        n,
-        e,
-        ends,
-        &from_head,
-        &from_next,
-        &to_head,
-        &to_next,
-        amounts,
-        excess,
-        lack,
-        &mut ways,
-        t,
-    );
+    waves(n, e, ends, &chains, amounts, excess, lack, &mut ways, t);
 }

@@ -16,10 +16,10 @@ returns : tie.Need-returns
 returns c = rests (c .if1 .taken)
 
 spill-requires : tie.Need-spill-requires
-spill-requires c κs = turn-forth (c .before .before .before .before .before .before .before .before .before .before .before .before .before .before .before .before .pre)
+spill-requires c κs = turn-forth (c .before .before .before .before .before .before .before .before .before .before .before .before .before .pre)
 
 spill-requires-2 : tie.Need-spill-requires-2
-spill-requires-2 c κs = turn-back (c .before .before .before .before .before .before .before .before .before .before .before .before .before .before .before .before .before .before .before .before .before .before .before .before .before .before .before .before .before .pre) (c .before .before .before .before .before .before .before .before .before .before .before .before .spill .ensures)
+spill-requires-2 c κs = turn-back (c .before .before .before .before .before .before .before .before .before .before .before .before .before .before .before .before .before .before .before .before .before .before .before .before .before .before .pre) (c .before .before .before .before .before .before .before .before .before .before .before .before .spill .ensures)
 
 same-length : tie.Need-same-length
 same-length c = search needs
@@ -34,7 +34,7 @@ same-length-4 : tie.Need-same-length-4
 same-length-4 c = search needs
 
 returns-2 : tie.Need-returns-2
-returns-2 c = turn-sent (c .before .before .before .before .before .before .before .before .before .before .before .before .before .before .before .before .before .before .before .before .before .before .before .before .before .before .before .before .before .before .before .before .before .before .before .before .before .before .pre) (above-0 (c .before .before .before .before .before .before .before .before .before .before .before .before .before .before .before .before .before .before .before .before .before .before .before .before .before .before .if1 .left)) (c .before .before .before .before .before .before .before .before .before .before .before .before .before .before .before .before .before .before .before .before .before .spill .ensures) (c .before .before .before .before .before .before .before .before .spill2 .ensures)
+returns-2 c = turn-sent (c .before .before .before .before .before .before .before .before .before .before .before .before .before .before .before .before .before .before .before .before .before .before .before .before .before .before .before .before .before .before .before .before .before .before .before .pre) (above-0 (c .before .before .before .before .before .before .before .before .before .before .before .before .before .before .before .before .before .before .before .before .before .before .before .before .before .before .if1 .left)) (c .before .before .before .before .before .before .before .before .before .before .before .before .before .before .before .before .before .before .before .before .before .spill .ensures) (c .before .before .before .before .before .before .before .before .spill2 .ensures)
 
 pub turn-spec : {M : Type 1} → statement M
 turn-spec =

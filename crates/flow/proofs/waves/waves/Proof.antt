@@ -10,10 +10,10 @@ use Rattle.flow.proofs.waves.waves.Statement.{statement}
 use Rattle.flow.proofs.waves.waves.Tie as tie
 
 abbrev Inv-loop : tie.InvT-loop
-Inv-loop n e ends from-head from-next to-head to-next amounts₀ excess₀ lack₀ ways₀ t₀ order₀ amounts excess lack ways t order = Waved n e ends amounts₀ excess₀ lack₀ ways₀ t₀ amounts excess lack ways t × (length order ≡ groupLimit)
+Inv-loop n e ends chains amounts₀ excess₀ lack₀ ways₀ t₀ order₀ amounts excess lack ways t order = Waved n e ends amounts₀ excess₀ lack₀ ways₀ t₀ amounts excess lack ways t × (length order ≡ groupLimit)
 
 abbrev μ-loop : tie.MeasureT-loop
-μ-loop n e ends from-head from-next to-head to-next amounts₀ excess₀ lack₀ ways₀ t₀ order₀ amounts excess lack ways t order = lacks n lack
+μ-loop n e ends chains amounts₀ excess₀ lack₀ ways₀ t₀ order₀ amounts excess lack ways t order = lacks n lack
 
 loop-holds : tie.Need-loop-holds Inv-loop μ-loop
 loop-holds c = (waved-none, refl)
@@ -22,7 +22,7 @@ slice-aggregate-wave : tie.Need-slice-aggregate-wave Inv-loop μ-loop
 slice-aggregate-wave c = sym (c .before .before .before .before .before .before .loop .inv .1)
 
 wave-requires : tie.Need-wave-requires Inv-loop μ-loop
-wave-requires c κs = record { ask = ask-after (c .before .before .before .before .before .before .before .before .before .before .before .before .before .before .before .before .before .pre) (c .before .before .before .before .before .before .loop .inv .0); order-long = omega (arith, c .before .before .before .before .before .before .loop .inv .1, c .before .before .before .before .before .before .before .before .before .before .before .before .before .before .before .before .before .pre .course .net .few-groups) }
+wave-requires c κs = record { ask = ask-after (c .before .before .before .before .before .before .before .before .before .before .before .before .before .before .pre) (c .before .before .before .before .before .before .loop .inv .0); order-long = omega (arith, c .before .before .before .before .before .before .loop .inv .1, c .before .before .before .before .before .before .before .before .before .before .before .before .before .before .pre .course .net .few-groups) }
 
 same-length : tie.Need-same-length Inv-loop μ-loop
 same-length c = (waved-on (c .before .before .before .before .before .before .before .before .before .before .before .before .before .before .before .before .before .before .before .loop .inv .0) (c .before .before .before .before .before .before .before .before .before .before .before .before .wave .ensures .waved)) .ran .flowed .amounts-long
