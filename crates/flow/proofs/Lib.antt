@@ -1,7 +1,7 @@
 -- The laws of the waves, each file leaning on those above it.
 pub mod SumLaws
 pub mod LinkLaws
--- Chains, and walking along one.
+-- Chains.
 pub mod ChainLaws
 -- The working copy of the links and amounts.
 pub mod CopyLaws

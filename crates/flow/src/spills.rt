@@ -8,7 +8,8 @@ use crate::ways::note;
 ghost use mathlib.Core.Path.{_≡_};
 ghost use Rattle.flow.specs.Waves.{Offerable, Offered, leastFor, Spillable, Spilled};
 
-// Through link k to q, if the link has the least amount that a send takes (few do for giving back) and q is still to come. Whether its from can give back is noted.
+// Through link k to q, if the link has the least amount that a send takes (few have it for giving back) and q is still to come. What the link's
+// from can give back then is noted.
 fn offer(
     k: usize,
     g: usize,
