@@ -1,8 +1,8 @@
 -- Laws of the working copy: what is said of the copy of the links, with the amounts as numbers, is said of every survey that has the links; and
 -- how the copy is made, link after link.
-use Prim.Native.Nat.{ℕ, _+_, _*_, _^_, _<_, _≤_}
+use Prim.Native.Nat.{ℕ, _+_, _-_, _*_, _^_, _<_, _≤_}
 use mathlib.Core.Path.{_≡_, refl, sym, ap, _∙_}
-use mathlib.Core.Logic.{inr}
+use mathlib.Core.Logic.{_⊎_, inl, inr}
 use mathlib.Core.List.{List}
 use mathlib.Core.Bool.{Bool, true, false}
 use native.Mathlib.Omega.{arith}
@@ -119,6 +119,20 @@ module _ {n e : ℕ} {links ends : List ℕ} where
           from = λ k l. rw (o .from k l) (net .from k l);
           to = λ k l. rw (o .to k l) (net .to k l);
         }
+
+-- ---- an end of a link, by its number: 0 the from, 1 the to
+
+pub end-small : {end : ℕ} → (end ≡ 0) ⊎ (end ≡ 1) → end ≤ 1
+end-small (inl z) = omega arith
+end-small (inr z) = omega arith
+
+pub other-end : {end : ℕ} → (end ≡ 0) ⊎ (end ≡ 1) → (1 - end ≡ 0) ⊎ (1 - end ≡ 1)
+other-end (inl z) = inr (omega arith)
+other-end (inr z) = inl (omega arith)
+
+pub end-below : {n e end : ℕ} {ends : List ℕ} → Copy n e ends → (end ≡ 0) ⊎ (end ≡ 1) → (k : ℕ) → k < e → endIn ends end k < n
+end-below net (inl z) = rw z (net .from)
+end-below net (inr z) = rw z (net .to)
 
 -- ---- link after link
 

@@ -13,7 +13,8 @@ use Rattle.flow.specs.Copies.{endIn, copied, flowing}
 use Rattle.flow.specs.Chains.{IsNext, headAt, nextAt}
 use Rattle.flow.specs.Ways.{Way, pays, gives-back, Noted}
 use Rattle.flow.specs.Sends.{Course}
-use Rattle.flow.specs.Waves.{Flowed, Rows, Ran, lacks, Coming, Rises, Passed, fallen, full, onward, Offerable, Offered, kept, took, leastFor, Spillable, Takable, Spilled, none, some, Turnable, Turned, rests, sent}
+use Rattle.flow.specs.Waves.{Flowed, Rows, Ran, lacks, Coming, Rises, Passed, fallen, full, onward, Offerable, Offered, kept, took, leastFor, Spillable, Passage, Spilled, none, some, Turnable, Turned, rests, sent}
+use Rattle.flow.proofs.CopyLaws.{end-small, other-end, end-below}
 use Rattle.flow.proofs.WayLaws.{noted-ways, noted-length}
 use Rattle.flow.proofs.SafeLaws.{Sent, sendable, sends-sent}
 
@@ -115,11 +116,7 @@ pub record Spilling (n e end g : ℕ) (ends amounts₀ ex₀ la₀ ways₀ t amo
 
 module _ {n e end g : ℕ} {ends chains amounts₀ ex₀ la₀ ways₀ t : List ℕ} (p : Spillable n e end g ends chains amounts₀ ex₀ la₀ ways₀ t) where
   pub spill-small : end ≤ 1
-  spill-small = go (p .which)
-    where
-      go : (end ≡ 0) ⊎ (end ≡ 1) → end ≤ 1
-      go (inl z) = omega arith
-      go (inr z) = omega arith
+  spill-small = end-small (p .which)
 
   pub spill-begins : Spilling n e end g ends amounts₀ ex₀ la₀ ways₀ t amounts₀ ex₀ la₀ ways₀ (getD chains (headAt end g) 0)
   spill-begins =
@@ -134,11 +131,7 @@ module _ {n e end g : ℕ} {ends chains amounts₀ ex₀ la₀ ways₀ t : List 
     rows = spilled-ran (w .spilled) .rows (p .rows)
 
     q-below : q < n
-    q-below = go (p .which)
-      where
-        go : (end ≡ 0) ⊎ (end ≡ 1) → q < n
-        go (inl h) = rw (rw h at z) (p .course .net .to k l)
-        go (inr h) = rw (rw h at z) (p .course .net .from k l)
+    q-below = rw z (end-below (p .course .net) (other-end (p .which)) k l)
 
     -- the link takes something
     way : leastFor end ≤ flowing amounts k → Way (copied n e ends) (flowing amounts) k g q
@@ -185,8 +178,8 @@ module _ {n e end g : ℕ} {ends chains amounts₀ ex₀ la₀ ways₀ t : List 
 
         -- nobody takes anything before the next link of the chain
         dry-before :
-            ((j : ℕ) → j < k → Takable end g ends amounts₀ t j → ⊥) → (Coming t q → leastFor end ≤ flowing amounts₀ k → ⊥)
-            → (j : ℕ) → j < getD chains (nextAt end k) 0 → Takable end g ends amounts₀ t j → ⊥
+            ((j : ℕ) → j < k → Passage end g ends amounts₀ t j → ⊥) → (Coming t q → leastFor end ≤ flowing amounts₀ k → ⊥)
+            → (j : ℕ) → j < getD chains (nextAt end k) 0 → Passage end g ends amounts₀ t j → ⊥
         dry-before before here j h x = at (ltb j k) refl (eqb j k) refl
           where
             at : (a : Bool) → ltb j k ≡ a → (b : Bool) → eqb j k ≡ b → ⊥

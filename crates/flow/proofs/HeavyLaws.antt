@@ -23,7 +23,7 @@ use Rattle.flow.specs.Links.{Given, bare}
 use Rattle.flow.specs.Copies.{endIn, copied, flowing, Copyable, Copy, Copied, Puttable, Put}
 use Rattle.flow.specs.Drains.{Net}
 use Rattle.flow.specs.Sends.{Balanced, Course}
-use Rattle.flow.specs.Waves.{unmarked, SettleAsk, Settled}
+use Rattle.flow.specs.Waves.{unmarked, WavesStart, WavesEnd}
 use Rattle.flow.specs.Heavy.{Halved, Flipped, Weighed, Weighable, Proves, Heavy}
 use Rattle.flow.proofs.LinkLaws.{bare-given, given-from, given-to, given-below}
 use Rattle.flow.proofs.CopyLaws.{Alike, given-alike, alike-least, alike-balanced, alike-no-cycle, net-copyable, net-copy}
@@ -116,16 +116,20 @@ module _ {n e : ℕ} {links plus minus marks amounts ends p m : List ℕ} (c : W
             };
       }
 
-  pub heavy-ask : SettleAsk n e ends blankAmounts p m marks
+  pub heavy-ask : WavesStart n e ends blankAmounts p m marks
   heavy-ask = record { course = heavy-course; t-long = c .marks-long }
 
   -- ---- what ends it
 
-  pub heavy-puttable : {p′ m′ t a′ : List ℕ} → Settled n e ends blankAmounts p m marks a′ p′ m′ t → Puttable e a′ amounts
-  heavy-puttable w =
-      record { few = c .net .few-links; long = course-after heavy-course (w .flowed) .amounts-long; room = c .amounts-long }
+  pub heavy-puttable : {k : ℕ} {p′ m′ t a′ : List ℕ} → k ≤ e → WavesEnd n e ends blankAmounts p m marks a′ p′ m′ t → Puttable k a′ amounts
+  heavy-puttable l w =
+      record {
+        few = omega (arith, c .net .few-links);
+        long = omega (arith, course-after heavy-course (w .flowed) .amounts-long);
+        room = omega (arith, c .amounts-long);
+      }
 
-  module _ {p′ m′ t a′ marks′ amounts′ : List ℕ} (w : Settled n e ends blankAmounts p m marks a′ p′ m′ t) (x : Flipped n t marks′) (y : Put e a′ amounts amounts′) where
+  module _ {p′ m′ t a′ marks′ amounts′ : List ℕ} (w : WavesEnd n e ends blankAmounts p m marks a′ p′ m′ t) (x : Flipped n t marks′) (y : Put e a′ amounts amounts′) where
     -- the marks are those of the groups that don't drain
     flips : (g : ℕ) → g < n → outside (unmarked t) g ≡ outside (markedSet marks′) g
     flips g l = rw (x .at g l) (at (eqb (getD t g 0) 0))

@@ -11,11 +11,11 @@ use lib.Seq.{getD-set-same, getD-set-other, set-set}
 use lib.Dec.{eqb}
 use borrow.Author.Tests.{eqb-true, eqb-false}
 use Rattle.survey.specs.Sets.{sum}
-use Rattle.survey.proofs.Sums.{sum-cong, term-le}
+use Rattle.survey.proofs.Sums.{sum-more, sum-cong, term-le}
 use Rattle.bits.specs.Bits.{digit, without}
 use Rattle.bits.proofs.BitLaws.{digit-bound, zero-digit, lowest-digit, without-same, without-other, without-less}
 use Rattle.flow.specs.Drains.{Placed, Joinable, Joined, Begun, FirstMark, lacking, level, Begins}
-use Rattle.flow.proofs.SumLaws.{sum-more, sum-change}
+use Rattle.flow.proofs.SumLaws.{sum-change}
 
 -- ---- a list with one place set
 

@@ -3,14 +3,9 @@ use Prim.Native.Nat.{ℕ, zero, suc, _+_, _<_}
 use mathlib.Core.Path.{_≡_, ap}
 use mathlib.Core.Logic.{⊎-elim}
 use native.Mathlib.Omega.{arith}
-use native.Mathlib.Numerals.{add-one}
 use Rattle.survey.specs.Sets.{sum}
 use Rattle.survey.proofs.SumOrder.{before-or-last}
 use Rattle.survey.proofs.Sums.{sum-cong}
-
-pub sum-more : (n : ℕ) (f : ℕ → ℕ) → sum (n + 1) f ≡ sum n f + f n
-unfolding sum
-sum-more n f = rw add-one
 
 -- At g the first is larger by d, and elsewhere the two are the same.
 pub sum-change :

@@ -3,7 +3,7 @@ use Prim.Native.Nat.{ℕ, _*_, _≤_, _<_}
 use native.Mathlib.Omega.{arith}
 use mathlib.Core.Path.{_≡_, refl, sym, _∙_}
 use mathlib.Core.Bool.{Bool, true, false, not}
-use mathlib.Core.Logic.{_⊎_, inl, inr}
+use mathlib.Core.Logic.{_⊎_}
 use mathlib.Core.List.{List}
 use lib.ListN.{length, getD}
 use lib.Dec.{eqb, ltb}
@@ -17,10 +17,11 @@ use Rattle.flow.specs.Copies.{endIn}
 use Rattle.flow.specs.Chains.{headAt, nextAt, Chainable, Chained}
 use Rattle.flow.specs.Ways.{WaysFound}
 use Rattle.flow.specs.Drains.{Growable, Begun, Grown, Least}
-use Rattle.flow.specs.Waves.{unmarked, Remarked, Apartable, SetApart, Pourable, Still, Poured, WavesAsk, Wavable, Dry, Waved, WavedOnce, WavedAll, SettleAsk, Settled}
+use Rattle.flow.specs.Waves.{unmarked, Remarked, Apartable, SetApart, Pourable, Still, Poured, WavesAsk, Wavable, Dry, Waved, WavedOnce, WavedAll, WavesStart, WavesEnd}
 use Rattle.flow.proofs.JoinLaws.{placed-most}
 use Rattle.flow.proofs.DrainLaws.{ways-growable, grown-hops, grown-least}
 use Rattle.flow.proofs.ChainLaws.{other-head, index-stays}
+use Rattle.flow.proofs.CopyLaws.{end-small, end-below}
 use Rattle.flow.proofs.SafeLaws.{net-inside}
 use Rattle.flow.proofs.ApartLaws.{apart-coming, apart-remarked, apart-ahead, apart-began}
 use Rattle.flow.proofs.FlowLaws.{ran-none, ran-on, course-after, lack-no-excess}
@@ -151,26 +152,18 @@ ask-after p w =
 
 -- ---- with what the waves go by
 
-module _ {n e : ℕ} {ends amounts ex la t : List ℕ} (p : SettleAsk n e ends amounts ex la t) where
+module _ {n e : ℕ} {ends amounts ex la t : List ℕ} (p : WavesStart n e ends amounts ex la t) where
   pub settle-chainable : {end : ℕ} {chains : List ℕ} → (end ≡ 0) ⊎ (end ≡ 1) → nextAt 2 0 ≤ length chains → ((g : ℕ) → g < n → getD chains (headAt end g) 0 ≡ e) → Chainable ends n e end chains
   settle-chainable {end} which long empty =
       record {
         few-groups = p .course .net .few-groups;
         few-links = p .course .net .few-links;
-        small = small which;
+        small = end-small which;
         ends-long = p .course .net .ends-long;
         long = long;
-        below = below which;
+        below = end-below (p .course .net) which;
         empty = empty;
       }
-    where
-      small : (end ≡ 0) ⊎ (end ≡ 1) → end ≤ 1
-      small (inl z) = omega arith
-      small (inr z) = omega arith
-
-      below : (end ≡ 0) ⊎ (end ≡ 1) → (k : ℕ) → k < e → endIn ends end k < n
-      below (inl z) = rw z (p .course .net .from)
-      below (inr z) = rw z (p .course .net .to)
 
   module _ {chains₀ chains₁ : List ℕ} (first : Chained ends n e 0 chains₀ chains₁) where
     -- by the other end the chains are empty still
@@ -187,5 +180,5 @@ module _ {n e : ℕ} {ends amounts ex la t : List ℕ} (p : SettleAsk n e ends a
           t-long = p .t-long;
         }
 
-pub settled : {n e : ℕ} {ends amounts ex la ways t amounts′ ex′ la′ ways′ t′ : List ℕ} → WavedAll n e ends amounts ex la ways t amounts′ ex′ la′ ways′ t′ → Settled n e ends amounts ex la t amounts′ ex′ la′ t′
+pub settled : {n e : ℕ} {ends amounts ex la ways t amounts′ ex′ la′ ways′ t′ : List ℕ} → WavedAll n e ends amounts ex la ways t amounts′ ex′ la′ ways′ t′ → WavesEnd n e ends amounts ex la t amounts′ ex′ la′ t′
 settled w = record { flowed = w .waved .ran .flowed; rest = w .waved .rest; long = w .waved .long; done = w .done }

@@ -12,7 +12,7 @@ use Rattle.survey.specs.Balance.{Amounts}
 use Rattle.bits.specs.Bits.{bit, putBit, cutBit}
 use Rattle.bits.proofs.BitLaws.{zero-bit, put-length, cut-length, put-same, put-other, cut-same, cut-other}
 use Rattle.flow.specs.Copies.{endIn, copied, Copy}
-use Rattle.flow.specs.Ways.{Way, pays, gives-back, Ways, Noted, stands, fails, Findable, Found, both-ways, one-way}
+use Rattle.flow.specs.Ways.{Way, pays, gives-back, Ways, Noted, stands, fails, Findable, WayFound, both-ways, one-way}
 
 -- ---- one bit
 
@@ -20,7 +20,7 @@ pub noted-length : {h g a : ℕ} {rows rows′ : List ℕ} → Noted h g a rows 
 noted-length {h} {g} {rows = rows} (stands some) = put-length rows g h
 noted-length {h} {g} {rows = rows} (fails none) = cut-length rows g h
 
-pub found-length : {p q a : ℕ} {ways ways′ : List ℕ} → Found p q a ways ways′ → length ways′ ≡ length ways
+pub found-length : {p q a : ℕ} {ways ways′ : List ℕ} → WayFound p q a ways ways′ → length ways′ ≡ length ways
 found-length {p} {q} {ways = ways} (both-ways some) = put-length (putBit ways p q) q p ∙ put-length ways p q
 found-length {p} {q} {ways = ways} (one-way none) = put-length ways p q
 
@@ -155,7 +155,7 @@ module _ {n e : ℕ} {ends : List ℕ} (net : Copy n e ends) where
 
   pub ways-more :
       {x : Amounts} {k p q : ℕ} {ways ways′ : List ℕ} → k < e → p ≡ endIn ends 0 k → q ≡ endIn ends 1 k → 2 * n ≤ length ways
-      → Ways (copied n e ends) x k ways → Found p q (x k) ways ways′ → Ways (copied n e ends) x (k + 1) ways′
+      → Ways (copied n e ends) x k ways → WayFound p q (x k) ways ways′ → Ways (copied n e ends) x (k + 1) ways′
   ways-more {x} {k} {p} {q} {ways} l zp zq room w (both-ways some) = added-ways l (both-added x k p q l zp zq ways room some) w
   ways-more {x} {k} {p} {q} {ways} l zp zq room w (one-way none) = added-ways l (one-added x k p q l zp zq ways room none) w
 

@@ -97,14 +97,14 @@ pub record Spillable (n e end g : ℕ) (ends chains amounts ex la ways t : List 
   pub t-long : n ≤ length t
 
 -- through link k of g, by that end, there is something to send
-pub record Takable (end g : ℕ) (ends amounts t : List ℕ) (k : ℕ) : Type 0 where
+pub record Passage (end g : ℕ) (ends amounts t : List ℕ) (k : ℕ) : Type 0 where
   pub hit : endIn ends end k ≡ g
   pub coming : Coming t (endIn ends (1 - end) k)
   pub least : leastFor end ≤ flowing amounts k
 
 -- along the links before m: nothing was sent, since no link takes anything; or something was
 pub data Spilled (n e m end g : ℕ) (ends amounts ex la ways t : List ℕ) : List ℕ → List ℕ → List ℕ → List ℕ → Type 0 where
-  none : (0 < getD ex g 0 → (k : ℕ) → k < m → Takable end g ends amounts t k → ⊥) → Spilled n e m end g ends amounts ex la ways t amounts ex la ways
+  none : (0 < getD ex g 0 → (k : ℕ) → k < m → Passage end g ends amounts t k → ⊥) → Spilled n e m end g ends amounts ex la ways t amounts ex la ways
   some :
       {amounts′ ex′ la′ ways′ : List ℕ} → Ran n e ends amounts ex la ways amounts′ ex′ la′ ways′ → Rises g ends amounts amounts′ → Passed n la ex′ la′ t
       → Spilled n e m end g ends amounts ex la ways t amounts′ ex′ la′ ways′
@@ -210,11 +210,11 @@ pub record WavedAll (n e : ℕ) (ends amounts ex la ways t amounts′ ex′ la�
 
 -- ---- all waves, with what they go by
 
-pub record SettleAsk (n e : ℕ) (ends amounts ex la t : List ℕ) : Type 0 where
+pub record WavesStart (n e : ℕ) (ends amounts ex la t : List ℕ) : Type 0 where
   pub course : Course n e ends amounts ex la
   pub t-long : n ≤ length t
 
-pub record Settled (n e : ℕ) (ends amounts ex la t amounts′ ex′ la′ t′ : List ℕ) : Type 0 where
+pub record WavesEnd (n e : ℕ) (ends amounts ex la t amounts′ ex′ la′ t′ : List ℕ) : Type 0 where
   pub flowed : Flowed n e ends amounts ex la amounts′ ex′ la′
   pub rest : (g : ℕ) → n ≤ g → getD t′ g 0 ≡ getD t g 0
   pub long : length t′ ≡ length t

@@ -37,9 +37,9 @@ pub record Findable (p q : ℕ) (ways : List ℕ) : Type 0 where
   pub to : Notable q p ways
 
 -- Of a link from p to q, q can pay into p; and p into q where there is an amount a to give back.
-pub data Found (p q a : ℕ) (ways : List ℕ) : List ℕ → Type 0 where
-  both-ways : 0 < a → Found p q a ways (putBit (putBit ways p q) q p)
-  one-way : a ≡ 0 → Found p q a ways (putBit ways p q)
+pub data WayFound (p q a : ℕ) (ways : List ℕ) : List ℕ → Type 0 where
+  both-ways : 0 < a → WayFound p q a ways (putBit (putBit ways p q) q p)
+  one-way : a ≡ 0 → WayFound p q a ways (putBit ways p q)
 
 -- ---- all links
 

@@ -8,7 +8,7 @@ use crate::sizes::GROUPS;
 use crate::sizes::ROWS;
 use crate::spills::spill;
 use crate::ways::find_ways;
-ghost use Rattle.flow.specs.Waves.{Apartable, SetApart, Turnable, Turned, Pourable, Poured, Wavable, WavedOnce, WavesAsk, WavedAll, SettleAsk, Settled};
+ghost use Rattle.flow.specs.Waves.{Apartable, SetApart, Turnable, Turned, Pourable, Poured, Wavable, WavedOnce, WavesAsk, WavedAll, WavesStart, WavesEnd};
 
 // The groups that began the wave are marked 3: each of them takes at most its lack.
 fn set_apart(t: &mut [u8], order: &[u16], started: usize)
@@ -158,8 +158,8 @@ pub fn settle(
     lack: &mut [u64],
     t: &mut [u8],
 )
-    requires { ⌜ SettleAsk n e (now ends) (now amounts) (now excess) (now lack) (now t) ⌝ }
-    ensures { λ r. ⌜ Settled n e (now (ends .entry)) (now (amounts .entry)) (now (excess .entry)) (now (lack .entry)) (now (t .entry)) (now (amounts .exit)) (now (excess .exit)) (now (lack .exit)) (now (t .exit)) ⌝ }
+    requires { ⌜ WavesStart n e (now ends) (now amounts) (now excess) (now lack) (now t) ⌝ }
+    ensures { λ r. ⌜ WavesEnd n e (now (ends .entry)) (now (amounts .entry)) (now (excess .entry)) (now (lack .entry)) (now (t .entry)) (now (amounts .exit)) (now (excess .exit)) (now (lack .exit)) (now (t .exit)) ⌝ }
 {
     let mut chains = [e as u16; CHAINS];
     chain(ends, n, e, 0, &mut chains);

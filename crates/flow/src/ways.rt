@@ -2,7 +2,7 @@
 use crate::ends::end_in;
 use bits::cut;
 use bits::put;
-ghost use Rattle.flow.specs.Ways.{Notable, Noted, Findable, Found, Blank, WaysFound};
+ghost use Rattle.flow.specs.Ways.{Notable, Noted, Findable, WayFound, Blank, WaysFound};
 
 // Group h stands in row g where there is an amount, and doesn't where there is none.
 pub fn note(h: usize, g: usize, amount: u64, rows: &mut [u64])
@@ -19,7 +19,7 @@ pub fn note(h: usize, g: usize, amount: u64, rows: &mut [u64])
 // Of a link from p to q: q can pay into p, and p can give back what q paid.
 fn find_way(p: usize, q: usize, amount: u64, ways: &mut [u64])
     requires { ⌜ Findable p q (now ways) ⌝ }
-    ensures { λ r. ⌜ Found p q amount (now (ways .entry)) (now (ways .exit)) ⌝ }
+    ensures { λ r. ⌜ WayFound p q amount (now (ways .entry)) (now (ways .exit)) ⌝ }
 {
     put(ways, p, q);
     if amount == 0 {

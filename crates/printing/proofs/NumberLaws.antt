@@ -9,7 +9,8 @@ use lib.ListN.{length, getD, length-append}
 use borrow.Author.Tests.{eq-eqb, ne-eqb}
 use Rattle.survey.specs.Sets.{Set, sum, only}
 use Rattle.survey.specs.Words.{markedSet}
-use Rattle.weights.proofs.MarkedLaws.{sum-more, marked-brings, unmarked-brings}
+use Rattle.survey.proofs.Sums.{sum-more}
+use Rattle.weights.proofs.MarkedLaws.{marked-brings, unmarked-brings}
 use Rattle.printing.specs.Texts.{lineFeed, decimal}
 use Rattle.printing.specs.Printing.{numberLine, numberLines}
 use Rattle.printing.specs.Put.{Put, PutLine}

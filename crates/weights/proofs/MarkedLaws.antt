@@ -1,6 +1,5 @@
 -- Sums over the marked groups: how they grow, that they stay small, and that they are those of every survey with these groups.
 use Prim.Native.Nat.{ℕ, _+_, _*_, _≤_, _<_, _^_, zero-le}
-use native.Mathlib.Numerals.{add-one}
 use native.Mathlib.Omega.{arith}
 use mathlib.Core.Path.{_≡_, refl, sym, ap, _∙_}
 use mathlib.Core.Bool.{Bool, true, false}
@@ -25,10 +24,6 @@ use Rattle.weights.specs.Marked.{groupsOf, SomeGroups}
 pub sum-none : (f : ℕ → ℕ) → sum 0 f ≡ 0
 unfolding sum
 sum-none f = refl
-
-pub sum-more : (g : ℕ) (f : ℕ → ℕ) → sum (g + 1) f ≡ sum g f + f g
-unfolding sum
-sum-more g f = rw add-one
 
 only-le : (t : Bool) {x y : ℕ} → x ≤ y → only t x ≤ y
 only-le true h = h

@@ -1,5 +1,6 @@
 -- `weights::dead_sum` meets its contract. The invariant: what the groups below g bring is summed. Assumes nothing.
-use Rattle.weights.proofs.MarkedLaws.{deads, sum-none, sum-more, dead-fits, dead-whole}
+use Rattle.weights.proofs.MarkedLaws.{deads, sum-none, dead-fits, dead-whole}
+use Rattle.survey.proofs.Sums.{sum-more}
 use Rattle.survey.specs.Sets as sets
 use denote.Ref.{now}
 use native.Mathlib.Omega.{arith}

@@ -1,5 +1,6 @@
 -- `weights::live_sum` meets its contract. The invariant: what the groups below g bring is summed. Assumes nothing.
-use Rattle.weights.proofs.MarkedLaws.{costs, sum-none, sum-more, cost-fits, cost-whole}
+use Rattle.weights.proofs.MarkedLaws.{costs, sum-none, cost-fits, cost-whole}
+use Rattle.survey.proofs.Sums.{sum-more}
 use Rattle.survey.specs.Sets as sets
 use denote.Ref.{now}
 use native.Mathlib.Omega.{arith}

@@ -1,4 +1,5 @@
 -- `flow::heavy::heaviest` meets its contract: what was copied and halved, what the waves left, the marks flipped and the amounts written, by `heavy-law`. Assumes nothing.
+use native.Mathlib.Omega.{arith}
 use Rattle.flow.proofs.HeavyLaws.{heavy-copyable, heavy-ask, heavy-puttable, heavy-law}
 use borrow.Author.Needs.{needs}
 use Rattle.flow.proofs.heavy.heaviest.Statement.{statement}
@@ -29,7 +30,7 @@ slice-aggregate-put-amounts : tie.Need-slice-aggregate-put-amounts
 slice-aggregate-put-amounts c = search needs
 
 put-amounts-requires : tie.Need-put-amounts-requires
-put-amounts-requires c κs = heavy-puttable (c .before .before .before .before .before .before .before .before .before .before .before .before .before .before .before .before .before .before .before .before .before .before .before .before .before .before .before .before .before .before .before .before .before .before .pre) (c .before .before .before .before .before .before .before .before .before .before .before .before .before .before .before .before .before .before .before .before .before .before .before .before .before .before .before .copy-ends .ensures) (c .before .before .before .before .before .before .before .before .before .before .before .before .before .before .before .before .before .before .before .before .before .before .before .halve .ensures) (c .before .before .before .before .before .before .before .before .before .before .before .before .before .settle .ensures)
+put-amounts-requires c κs = heavy-puttable (c .before .before .before .before .before .before .before .before .before .before .before .before .before .before .before .before .before .before .before .before .before .before .before .before .before .before .before .before .before .before .before .before .before .before .pre) (c .before .before .before .before .before .before .before .before .before .before .before .before .before .before .before .before .before .before .before .before .before .before .before .before .before .before .before .copy-ends .ensures) (c .before .before .before .before .before .before .before .before .before .before .before .before .before .before .before .before .before .before .before .before .before .before .before .halve .ensures) (omega arith) (c .before .before .before .before .before .before .before .before .before .before .before .before .before .settle .ensures)
 
 same-length : tie.Need-same-length
 same-length c = search needs
