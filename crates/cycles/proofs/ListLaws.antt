@@ -4,7 +4,7 @@ use mathlib.Core.Path.{_≡_}
 use mathlib.Core.List.{List}
 use borrow.Author.Tests.{lt-ltb}
 use Rattle.survey.specs.Words.{linkAt}
-use Rattle.survey.proofs.Reaching.{Inside}
+use Rattle.survey.specs.Sound.{Inside}
 use Rattle.entries.specs.Entries.{stand}
 use Rattle.cycles.specs.declared.lists.LinkList.{LinkList}
 use Rattle.cycles.specs.Lists.{linkIn, linksIn, LinksHold}

@@ -1,5 +1,5 @@
 -- Document 01, "The balance rule for claims".
-use Prim.Native.Nat.{ℕ, _+_, _<_}
+use Prim.Native.Nat.{ℕ, _+_, _-_, _<_}
 use mathlib.Core.Path.{_≡_}
 use lib.Dec.{eqb}
 use Rattle.survey.specs.Survey.{Survey}
@@ -25,6 +25,13 @@ credit s w a g = w .plus g + gets s a g
 
 abbrev pub debit : Survey → Weights → Amounts → ℕ → ℕ
 debit s w a g = w .minus g + pays s a g
+
+-- the two halves of a balance: what it is above 0, and what it is below
+abbrev pub excess : Survey → Weights → Amounts → ℕ → ℕ
+excess s w a g = credit s w a g - debit s w a g
+
+abbrev pub lack : Survey → Weights → Amounts → ℕ → ℕ
+lack s w a g = debit s w a g - credit s w a g
 
 abbrev pub BalanceAbove0 : Survey → Weights → Amounts → ℕ → Type 0
 BalanceAbove0 s w a g = debit s w a g < credit s w a g

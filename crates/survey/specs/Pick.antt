@@ -1,5 +1,5 @@
 -- Document 01, "Survey, pick, quality": candidates and the pick.
-use Prim.Native.Nat.{ℕ, _*_, _<_}
+use Prim.Native.Nat.{_*_, _<_}
 use Rattle.survey.specs.Survey.{Survey}
 use Rattle.survey.specs.Sets.{Set, Eligible, Contains, D, L}
 
@@ -8,12 +8,9 @@ pub record Candidate (s : Survey) (S : Set) : Type 0 where
   pub eligible : Eligible s S
   pub dead : 0 < D s S
 
--- "Candidate A is better than B when L(A)·D(B) < L(B)·D(A)", on the four numbers D(A), L(A), D(B), L(B).
-abbrev pub Better : ℕ → ℕ → ℕ → ℕ → Type 0
-Better dA lA dB lB = lA * dB < lB * dA
-
+-- "Candidate A is better than B when L(A)·D(B) < L(B)·D(A)"
 abbrev pub BetterSet : Survey → Set → Set → Type 0
-BetterSet s A B = Better (D s A) (L s A) (D s B) (L s B)
+BetterSet s A B = L s A * D s B < L s B * D s A
 
 -- a candidate that no candidate is better than
 pub record Best (s : Survey) (S : Set) : Type 0 where

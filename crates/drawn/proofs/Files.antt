@@ -17,8 +17,8 @@ use Rattle.blocks.specs.FileFaults.{blockFaults}
 use Rattle.survey.proofs.Deciding.{Decides, told-iff, both, either, denied, implied, less, at-most, equal, allBelow, all-below}
 use Rattle.survey.proofs.Verdicts.{fine-clear}
 use Rattle.survey.proofs.ComputedVerdicts.{lowestBelow, verdictOf, verdictTest, RowsTold, noRow, row, answers-told}
-use Rattle.useless.proofs.Calls.{pair, groupBytes, linkBytes, zeros, cut-off}
-use Rattle.useless.proofs.Benched.{f2Groups, f2Links, f7Groups, f7Links, f2-admitted, f7-admitted}
+use Rattle.drawn.proofs.Calls.{pair, groupBytes, linkBytes, zeros, cut-off}
+use Rattle.drawn.proofs.Benched.{f2Groups, f2Links, f7Groups, f7Links, f2-admitted, f7-admitted}
 
 -- ---- the rows 2 to 7, decided by computing
 
