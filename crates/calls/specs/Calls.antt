@@ -6,7 +6,7 @@ use Rattle.survey.specs.Limits.{groupLimit, linkLimit, entryBytes}
 use Rattle.survey.specs.Words.{surveyOf}
 use Rattle.survey.proofs.Admitted.{Sound}
 
--- Each list has its n or e entries, and the survey is one that document 01 admits.
+-- Each list has its n or e entries, and no fault refuses the survey.
 pub record AdmittedCall (n e : ℕ) (groups links marks amounts : List ℕ) : Type 0 where
   pub few-groups : n ≤ groupLimit
   pub few-links : e ≤ linkLimit
