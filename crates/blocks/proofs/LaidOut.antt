@@ -53,8 +53,8 @@ equal {x} {y} d = go (ℕ-discrete x y)
     go (no n) = absurd (d n)
 
 -- where no number or kind is wrong, each kind is right
-pub clear-kind : {f : List ℕ} → Clear (badKind f) → (b : ℕ) → b < blockCount f → kindIn f b ≡ kindOf (nIn f) b
-clear-kind clear b m = equal (λ d. clear .none b m (λ c. d (c .1)))
+pub clear-kind : (f : List ℕ) → Clear (badKind f) → (b : ℕ) → b < blockCount f → kindIn f b ≡ kindOf (nIn f) b
+clear-kind f clear b m = equal (λ d. clear .none b m (λ c. d (c .1)))
 
 module _ {f : List ℕ} (length-clear : Clear (badLength f)) (check-clear : Clear (badCheck f)) (count-clear : Clear (badBlockCount f)) (kind-clear : Clear (badKind f)) (unused-clear : Clear (badUnused f)) where
   count : blockCount f ≡ blocksNeeded (nIn f) (eIn f)
@@ -71,7 +71,7 @@ module _ {f : List ℕ} (length-clear : Clear (badLength f)) (check-clear : Clea
         long = whole (λ l. length-clear .none 0 (omega arith) (inr (inl l))) ∙ ap (λ (x : ℕ). blockBytes * x) count;
         checks = λ b m. record { first = equal (λ d. check-clear .none b (below b m) (λ c. d (c .first))); second = equal (λ d. check-clear .none b (below b m) (λ c. d (c .second))) };
         numbers = λ b m. equal (λ d. kind-clear .none b (below b m) (λ c. d (c .0)));
-        kinds = λ b m. clear-kind kind-clear b (below b m);
+        kinds = λ b m. clear-kind f kind-clear b (below b m);
         zeros = λ b m. record { at = λ w u l. equal (λ d. unused-clear .none b (below b m) (λ c. d (c .at w u l))) };
       }
     where

@@ -8,6 +8,7 @@ use Rattle.blocks.proofs.LaidOut.{clear-kind}
 use mathlib.Core.Path.{sym, ap, _∙_}
 use borrow.Author.Needs.{needs}
 use native.Mathlib.Omega.{arith}
+use denote.Ref.{now}
 use Rattle.blocks.proofs.searches.first_bad_unused.Statement.{statement}
 use Rattle.blocks.proofs.searches.first_bad_unused.Tie as tie
 
@@ -33,7 +34,8 @@ unused-are-zero-requires : tie.Need-unused-are-zero-requires Inv-loop μ-loop
 unused-are-zero-requires c κs =
     let count = c .before .before .blocks-in .ensures in
     let n = c .before .before .before .before .n-in .ensures in
-    let right = clear-kind (c .before .before .before .before .before .before .pre .1) (c .before .loop .b) (omega (arith, count)) in (
+    let start = c .before .before .before .before .before .before in
+    let right = clear-kind (now (start .args .file)) (start .pre .1) (c .before .loop .b) (omega (arith, count)) in (
       record { fits = omega (arith, count) },
       record { groups = n .1; links = c .before .before .before .e-in .ensures .1; block = omega (arith, count) },
       right ∙ ap (λ (x : ℕ). kindOf x (c .before .loop .b)) (sym (n .0)),
