@@ -13,7 +13,7 @@ pub record LongEnough (groups links marks amounts : List ℕ) : Type 0 where
   pub marks-have : groupLimit ≤ length marks
   pub amounts-have : linkLimit ≤ entries amounts
 
--- Each list has its n or e entries, and the survey is one that document 01 admits.
+-- Each list has its n or e entries, and no fault refuses the survey.
 pub record AdmittedCall (n e : ℕ) (groups links marks amounts : List ℕ) : Type 0 where
   pub few-groups : n ≤ groupLimit
   pub few-links : e ≤ linkLimit

@@ -9,8 +9,9 @@ use native.Mathlib.Omega.{arith}
 use lib.Dec.{ltb}
 use lib.ListN.{getD}
 use borrow.Author.Tests.{ltb-true}
+use Rattle.survey.specs.declared.stands.Stand.{Stand}
 use Rattle.survey.specs.Limits.{entryBytes}
-use Rattle.survey.specs.Words.{word, Stand, standsAt, lent, groupAt, linkAt, upTo, surveyAt, surveyOf}
+use Rattle.survey.specs.Words.{word, standsAt, lent, groupAt, linkAt, upTo, surveyAt, surveyOf}
 use Rattle.survey.specs.SurveyFile.{nIn, eIn, firstGroupBlock, firstLinkBlock, inBlocks, surveyIn}
 use Rattle.survey.specs.Promises.{Filled}
 

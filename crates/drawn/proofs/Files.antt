@@ -7,7 +7,8 @@ use lib.Dec.{eqb, leb, ltb}
 use lib.ListN.{length, getD}
 use Rattle.survey.specs.Limits.{groupLimit, linkLimit, blockBytes, contentWords}
 use Rattle.survey.specs.Survey.{Survey, Group, Link}
-use Rattle.survey.specs.Words.{Stand, groupAt, linkAt, surveyAt}
+use Rattle.survey.specs.declared.stands.Stand.{Stand}
+use Rattle.survey.specs.Words.{groupAt, linkAt, surveyAt}
 use Rattle.survey.specs.SurveyFile.{CheckAgrees, sums, blockWord, blockCount, numberIn, kindIn, kindOf, nIn, eIn, blocksNeeded, fileLimit, usedWords, UnusedAreZero}
 use Rattle.survey.specs.SurveyFile.{inBlocks, firstGroupBlock, firstLinkBlock, surveyIn}
 use Rattle.survey.specs.Refusals.{fine, Fault, AllClear}

@@ -5,9 +5,11 @@ use mathlib.Core.Bool.{Bool, cond}
 use mathlib.Core.List.{List}
 use lib.ListN.{length}
 use lib.Dec.{leb, eqb}
-use Rattle.survey.specs.Limits.{groupLimit, linkLimit, blockBytes, contentWords, blockPairs, entryBytes}
+use Rattle.survey.specs.declared.stands.Stand.{Stand}
+use Rattle.survey.specs.declared.stands.Stand.the-variants.{Blocks}
+use Rattle.survey.specs.Limits.{groupLimit, linkLimit, blockBytes, contentWords, blockPairs}
 use Rattle.survey.specs.Survey.{Survey}
-use Rattle.survey.specs.Words.{word, Stand, surveyAt}
+use Rattle.survey.specs.Words.{word, surveyAt}
 
 -- "Blocks of 512 bytes."
 abbrev pub blockCount : List ℕ → ℕ
@@ -80,7 +82,9 @@ kindOf n b = cond (eqb b 0) 1 (cond (leb (firstLinkBlock n) b) 3 2)
 abbrev pub pairWords : ℕ → ℕ
 pairWords k = 2 + 2 * k
 
--- In block b the words from this one on are unused: past n and e in block 0, past the pairs that are left in the others.
+-- In block b the words from this one on are unused: past n and e in block 0, past the pairs that are left in the others. A block that is not the last of
+-- its kind is full, and more pairs are left for it and those after it than it has room for: there this passes 126, and no word of the block is unused, since
+-- `UnusedAreZero` looks at the words from here up to 126 alone.
 abbrev pub usedWords : ℕ → ℕ → ℕ → ℕ
 usedWords n e b =
     cond (eqb b 0) 4
@@ -90,9 +94,9 @@ usedWords n e b =
 pub record UnusedAreZero (f : List ℕ) (n e b : ℕ) : Type 0 where
   pub at : (w : ℕ) → usedWords n e b ≤ w → w < contentWords → blockWord f b w ≡ 0
 
--- Pair k of the blocks from block first on stands in block first + k / 62, from word 2 + 2·(k % 62) on.
+-- the pairs that stand in the blocks from block first on
 abbrev pub inBlocks : ℕ → Stand
-inBlocks first = record { base = blockBytes * first + entryBytes; gap = blockBytes - entryBytes * blockPairs }
+inBlocks first = Blocks first
 
 -- the survey that a file holds
 abbrev pub surveyIn : List ℕ → Survey

@@ -1,12 +1,14 @@
 -- Numbers in bytes. Document 01, "What is built": "a group or a link is its pair of words as in the file, an amount is 8 bytes,
 -- low byte first, and a mark is one byte; a list's length is its number of whole entries."
-use Prim.Native.Nat.{ℕ, _+_, _*_, _/_, _<_}
+use Prim.Native.Nat.{ℕ, _+_, _*_, _/_, _%_, _<_}
 use mathlib.Core.Path.{_≡_}
 use mathlib.Core.Bool.{Bool, cond}
 use mathlib.Core.List.{List}
 use lib.ListN.{length, getD}
 use lib.Dec.{ltb, eqb}
-use Rattle.survey.specs.Limits.{entryBytes, blockPairs}
+use Rattle.survey.specs.declared.stands.Stand.{Stand}
+use Rattle.survey.specs.declared.stands.Stand.the-variants.{Lent, Blocks}
+use Rattle.survey.specs.Limits.{entryBytes, blockBytes, blockPairs}
 use Rattle.survey.specs.Survey.{Group, Link, Survey}
 use Rattle.survey.specs.Sets.{Set}
 use Rattle.survey.specs.Balance.{Amounts}
@@ -19,17 +21,22 @@ word l i = getD l i 0 + 256 * getD l (i + 1) 0 + 65_536 * getD l (i + 2) 0 + 16_
 abbrev pub longWord : List ℕ → ℕ → ℕ
 longWord l i = word l i + 4_294_967_296 * word l (i + 4)
 
--- Where the entries of a list stand. In a lent list entry k stands at 8·k; in the blocks of a file, 62 to a block, the next block
--- stands 16 bytes further on. So everywhere: at base + 8·k + gap·(k / 62).
-pub record Stand : Type 0 where
-  pub base : ℕ
-  pub gap : ℕ
+-- The pairs of a file stand in its blocks, 62 to a block, each block's from word 2 on. Of the blocks from block first on, pair k stands in this one ..
+abbrev pub blockOfPair : ℕ → ℕ → ℕ
+blockOfPair first k = first + k / blockPairs
 
+-- .. and in it this is the first of its two words.
+abbrev pub wordOfPair : ℕ → ℕ
+wordOfPair k = 2 + 2 * (k % blockPairs)
+
+-- The byte that entry k begins at: in a lent list entries stand one after the other, in a file a word is 4 bytes. Word w of block b is defined in `SurveyFile`,
+-- and what a pair's two words are there is said in proofs/Standing.
 abbrev pub standsAt : Stand → ℕ → ℕ
-standsAt w k = w .base + entryBytes * k + w .gap * (k / blockPairs)
+standsAt Lent k = entryBytes * k
+standsAt (Blocks first) k = blockBytes * blockOfPair first k + 4 * wordOfPair k
 
 abbrev pub lent : Stand
-lent = record { base = 0; gap = 0 }
+lent = Lent
 
 -- "a list's length is its number of whole entries"
 abbrev pub entries : List ℕ → ℕ
@@ -41,9 +48,6 @@ groupAt l w k = record { dead = word l (standsAt w k); live = word l (standsAt w
 
 abbrev pub linkAt : List ℕ → Stand → ℕ → Link
 linkAt l w k = record { from = word l (standsAt w k); to = word l (standsAt w k + 4) }
-
-abbrev pub amountAt : List ℕ → Stand → ℕ → ℕ
-amountAt l w k = longWord l (standsAt w k)
 
 -- f up to place n, and z from there on
 abbrev pub upTo {ℓ} : {A : Type ℓ} → ℕ → A → (ℕ → A) → ℕ → A
@@ -68,4 +72,4 @@ abbrev pub markedSet : List ℕ → Set
 markedSet m g = eqb (getD m g 0) 1
 
 abbrev pub amountsOf : List ℕ → Amounts
-amountsOf a k = amountAt a lent k
+amountsOf a k = longWord a (standsAt lent k)
