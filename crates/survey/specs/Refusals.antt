@@ -1,4 +1,4 @@
--- Document 01, "Refusal numbers": what a refusal is and which one is given, for every part alike.
+-- Specification 10, "Refusals": what a refusal is and which one is given, for every part alike.
 use Prim.Native.Nat.{ℕ, zero, suc, _<_, _≤_}
 use mathlib.Core.Path.{_≡_}
 use mathlib.Core.Logic.{_⊎_}
@@ -18,21 +18,21 @@ pub data Verdict : Type 0 where
 abbrev pub within : ℕ → ℕ → ℕ → Bool
 within lo hi x = leb lo x && leb x hi
 
--- The table's last column: what sort of place a fault of that number has where it has one. k is the block's, group's or link's number.
+-- 10.1: which sort of place belongs to which number, as the table of 11.1 has it. k is the number of the block, group or link.
 abbrev pub placeOf : ℕ → ℕ → Place
 placeOf number k =
     cond (within 3 4 number || within 6 7 number) (Block k)
     (cond (within 8 8 number || (within 13 13 number || within 17 18 number)) (Group k)
     (cond (within 9 10 number || within 14 15 number) (Link k) Nothing))
 
--- A fault: a row of the table. It is looked for at each of some places, and each place is at fault or not.
+-- A fault: a row of that table. It is looked for at each of some places, and each place is at fault or not.
 pub record Fault : Type 1 where
   pub number : ℕ
   pub place : ℕ → Place
   pub places : ℕ
   pub at : ℕ → Type 0
 
--- a row whose place is "nothing"
+-- a row of which the place is nothing in particular
 abbrev pub whole : ℕ → Type 0 → Fault
 whole number P = record { number = number; place = λ k. Nothing; places = 1; at = λ k. P }
 
@@ -44,7 +44,7 @@ among number places P = record { number = number; place = placeOf number; places
 pub record Clear (f : Fault) : Type 0 where
   pub none : (k : ℕ) → k < f .places → f .at k → ⊥
 
--- "the lowest place at fault under it"
+-- 10.3: where several places have the fault, k is the lowest of them
 pub record Lowest (f : Fault) (k : ℕ) : Type 0 where
   pub below : k < f .places
   pub fault : f .at k
@@ -59,7 +59,7 @@ pub record Given (f : Fault) (v : Verdict) : Type 0 where
   pub lowest : Lowest f lowestPlace
   pub is : v ≡ refused (refusal f lowestPlace)
 
--- "a later fault is only looked for when no earlier one is there": the first fault of a list, in the order of looking
+-- 10.2: a fault is looked for only after those before it were found absent, and the first one present ends the looking.
 unfoldable pub First : List Fault → Verdict → Type 0
 First [] v = v ≡ fine
 First (f ∷ fs) v = Given f v ⊎ (Clear f × First fs v)
@@ -73,7 +73,7 @@ unfoldable pub AllClear : List Fault → Type 0
 AllClear [] = Unit {0}
 AllClear (f ∷ fs) = Clear f × AllClear fs
 
--- The order in which faults are looked for: "The lowest number whose fault is present is given."
+-- 10.2: faults are looked for in the order of their numbers.
 abbrev pub lookingOrder : List ℕ
 lookingOrder = 1 ∷ 2 ∷ 3 ∷ 4 ∷ 5 ∷ 6 ∷ 7 ∷ 8 ∷ 9 ∷ 10 ∷ 11 ∷ 12 ∷ 13 ∷ 14 ∷ 15 ∷ 16 ∷ 17 ∷ 18 ∷ []
 
