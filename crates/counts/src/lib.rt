@@ -1,4 +1,4 @@
-// Counts: "A dead count and a live count are never added together or put in one another's place." So each has a type of its own, and what
+// Counts (Specification 3.1). Dead and live are different sorts of number, never mixed: so each has a type of its own, and what
 // compares them, a cross product or a weight, takes one of each.
 ghost use mathlib.Core.Path.{_≡_};
 ghost use Prim.Native.Nat.{_+_, _*_, _^_, _≤_, _<_};
@@ -24,7 +24,7 @@ pub struct Weight {
     pub minus: u64,
 }
 
-// "Opening a group costs nothing beyond its live objects."
+// Specification 4.4: what a group costs is its live count.
 pub fn cost(g: Group) -> Live
     ensures { λ r. ⌜ r .0 ≡ sets.cost (groupOf g) ⌝ }
 {
@@ -40,7 +40,7 @@ pub fn cross(l: Live, d: Dead) -> u64
     live * dead
 }
 
-// The weight of a group, "dead·L - live·D", where d and l are the sums of the current set.
+// Specification 6.1: the weight of a group, where d and l are the sums of the current set.
 pub fn weight_of(g: Group, d: Dead, l: Live) -> Weight
     requires { ⌜ CountsFit (groupOf g) × (d .0 ≤ sumLimit) × (l .0 ≤ sumLimit) ⌝ }
     ensures { λ r. ⌜ WeightIs r (groupOf g) (d .0) (l .0) ⌝ }
@@ -51,7 +51,7 @@ pub fn weight_of(g: Group, d: Dead, l: Live) -> Weight
     Weight { plus, minus }
 }
 
-// "A is better than B when L(A)·D(B) < L(B)·D(A)"
+// Specification 5.2: whether A is better than B, compared crosswise.
 pub fn better(dead_a: Dead, live_a: Live, dead_b: Dead, live_b: Live) -> bool
     requires { ⌜ («dead_a» .0 ≤ sumLimit) × («live_a» .0 ≤ sumLimit) × («dead_b» .0 ≤ sumLimit) × («live_b» .0 ≤ sumLimit) ⌝ }
     ensures { λ r. ⌜ r ≡ ltb («live_a» .0 * «dead_b» .0) («live_b» .0 * «dead_a» .0) ⌝ }
