@@ -1,4 +1,4 @@
-// D and L of a marked set, and the weights that they give each group: "dead·L - live·D, with D and L of the current set".
+// D and L of a marked set (Specification 4.4), and the weights that they give each group (6.1).
 use counts::Dead;
 use counts::Live;
 use counts::add_dead;
