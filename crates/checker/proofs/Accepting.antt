@@ -1,4 +1,4 @@
--- What the checker's promise comes to, in document 01's words: what it accepts is the pick, it accepts exactly what the balance rule accepts,
+-- What the checker's promise comes to (Specification 1.4, demand 3): what it accepts is the pick, it accepts exactly what the balance rule accepts,
 -- it has one answer to each call, and refusal 18 always has its place.
 use Prim.Native.Nat.{ℕ, _≤_, _<_}
 use native.Mathlib.Decide.{ℕ-discrete}
@@ -55,16 +55,16 @@ module _ (n e : ℕ) (groups links marks amounts : List ℕ) where
   pub check-one : (r r′ : Judgement) → Checks r → Checks r′ → r ≡ r′
   check-one r r′ a b = judgement-one (checkerFaults n e groups links marks amounts) r r′ a b
 
-  -- What document 01 asks of a claim that is to be accepted, refusals and balance rule together.
+  -- What is asked of a claim that is to be accepted, refusals and balance rule together.
   pub record Acceptable : Type 0 where
-    -- no lent list is shorter than 128 (groups) or 1,024 (links)
+    -- no list is too short (refusal 1)
     pub long : LongEnough groups links marks amounts
-    -- "A survey is admitted when it has .., given as lists, none of 5 and 8 to 12."
+    -- Specification 11.3: the survey is admitted
     pub admitted : Admitted (surveyOf n e groups links)
-    -- "one mark per group (1 in the set, 0 not) and one amount per link, from 0 to 20,000,000,000,000,000"
+    -- Specification 7.1: each mark is 0 or 1, and each amount within its limit
     pub marks-good : (g : ℕ) → g < n → (getD marks g 0 ≡ 0) ⊎ (getD marks g 0 ≡ 1)
     pub amounts-good : (k : ℕ) → k < e → amountsOf amounts k ≤ amountLimit
-    -- "The claim is accepted exactly when .."
+    -- Specification 7.4: the balance rule
     pub rule : Accepted (surveyOf n e groups links) (markedSet marks) (amountsOf amounts)
 
   claim-clear : Checks Judgement.Accepted → AllClear (chooserFaults n e groups links marks amounts) × AllClear (claimFaults (surveyOf n e groups links) marks (amountsOf amounts))
@@ -143,7 +143,7 @@ module _ (n e : ℕ) (groups links marks amounts : List ℕ) where
       ∷ balanceAbove (surveyOf n e groups links) (markedSet marks) (amountsOf amounts)
       ∷ [])
 
-  -- A refusal 18: "lowest group that is in the largest set and not in the claimed one", and the claimed set lies in the largest.
+  -- A refusal 18: its group is the lowest that the largest settled set has and the claimed one leaves out, and the claimed set lies in the largest.
   pub record Refused18 (r : Judgement) : Type 0 where
     pub group : ℕ
     pub is : r ≡ Judgement.Refused (refusalAt 18 group)

@@ -14,7 +14,7 @@ use Rattle.refusals.specs.Searches.{Tells}
 use Rattle.balance.proofs.Looks.{mark-out}
 use Rattle.checker.specs.Claims.{Open}
 
--- "a mark is neither 0 nor 1"
+-- 13: a mark that is something else than 0 or 1
 pub mark-bad : {x : ℕ} → 1 < x → (x ≡ 0) ⊎ (x ≡ 1) → ⊥
 mark-bad h = ⊎-elim (λ e. omega arith) (λ e. omega arith)
 
