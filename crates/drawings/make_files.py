@@ -1,5 +1,6 @@
 #!/usr/bin/env python3
-"""Makes the survey files of data/ and of the pick program's stdin, from document 01 alone: it shares nothing with the code that reads them.
+"""Makes the survey files of data/ and of the pick program's stdin, from docs/SPECIFICATION.md alone (9, and the cases of 15.3): it shares nothing with
+the code that reads them.
 
 Run it from the root of the repository; the files are committed, and no test runs it.
 """
