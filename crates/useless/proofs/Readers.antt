@@ -1,4 +1,4 @@
--- Useless readers. Document 01, "Strength of the promises": none of them gives an answer that the reader's promise allows.
+-- Specification 15.5, useless readers: none of them gives an answer that the reader's promise allows.
 use Prim.Native.Nat.{ℕ}
 use native.Mathlib.Omega.{arith}
 use mathlib.Core.Path.{_≡_, refl, sym, ap, subst, _∙_}
@@ -19,7 +19,7 @@ use Rattle.useless.proofs.Owed.{none-refused}
 use Rattle.useless.proofs.Files.{f2File, f7File, f2-file, f7-file, f2-file-admitted}
 
 module _ {f groups links groups′ links′ : List ℕ} where
-  -- "One that refuses everything": an admitted file is not refused, with lists long enough.
+  -- One that refuses whatever it gets: an admitted file is not refused, with lists long enough.
   pub refuses-every-file :
       Clear (tooShort (groupList (entries groups) ∷ linkList (entries links) ∷ [])) → AdmittedFile f → {x : Refusal}
       → ReaderSays f groups links (Reading.Refused x) groups′ links′ → ⊥
@@ -38,8 +38,8 @@ module _ {f groups links groups′ links′ : List ℕ} where
     unfolding AllClear
     read-admitted = record { clear = fine-clear (readerFaults f groups links) (x .verdict) .1 }
 
--- "a reader that fills its lists with the same survey each time": two files that differ are never both answered with the same n and e and the
--- same lists, whatever was lent.
+-- One that puts the same survey into its lists every time: two files that differ are never both answered with the same n and e and the same lists,
+-- whatever was lent.
 pub same-survey-each-time :
     {f f₂ groups links groups₂ links₂ groups′ links′ : List ℕ} {n e : ℕ} → Bytes f → Bytes f₂ → (f ≡ f₂ → ⊥)
     → ReaderSays f groups links (Reading.Survey n e) groups′ links′ → ReaderSays f₂ groups₂ links₂ (Reading.Survey n e) groups′ links′ → ⊥
@@ -48,13 +48,13 @@ same-survey-each-time small small₂ d x y = d (same-file small small₂ (read-a
 -- ---- on F2's file and F7's
 
 module _ {groups links groups′ links′ : List ℕ} where
-  -- "One that refuses everything"
+  -- one that refuses whatever it gets
   pub refuses-f2 :
       Clear (tooShort (groupList (entries groups) ∷ linkList (entries links) ∷ [])) → {x : Refusal}
       → ReaderSays f2File groups links (Reading.Refused x) groups′ links′ → ⊥
   refuses-f2 long y = refuses-every-file long f2-file-admitted y
 
-  -- "the same survey each time": whatever it fills its lists with, it is not allowed for both files.
+  -- The same survey every time: whatever it fills its lists with, it is not allowed for both files.
   pub same-for-f2-and-f7 :
       {groups₇ links₇ : List ℕ} {n e : ℕ} → ReaderSays f2File groups links (Reading.Survey n e) groups′ links′
       → ReaderSays f7File groups₇ links₇ (Reading.Survey n e) groups′ links′ → ⊥
