@@ -17,7 +17,7 @@ pub enum Place {
 }
 
 impl Place {
-    /// The number of the block, group or link. Nothing prints as 0.
+    /// The number of the block, group or link, and 0 for nothing.
     pub fn number(&self) -> u64 {
         match *self {
             Place::Nothing => 0,
@@ -26,8 +26,8 @@ impl Place {
     }
 }
 
-/// Why the library refused: the lowest number whose fault is present, with the lowest place at
-/// fault under it.
+/// Why the library refused: the lowest number that there is a fault for, and of the places that have
+/// it the lowest.
 #[derive(Clone, Copy, Debug, PartialEq, Eq, Hash)]
 pub struct Refusal {
     /// The number of the fault in the table of refusals.

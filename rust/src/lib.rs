@@ -1,9 +1,9 @@
 //! The ingest tool's side of corkgully: a safe, typed wrapper of the proved library.
 //!
-//! A survey has groups, each with its count of dead and of live objects, and links: a link from p
-//! to q says that an object in p may point to one in q. [`read`] reads a survey file, [`choose`]
-//! chooses the pick of a survey, and [`check`] checks a claim that a set of groups is the pick. Each
-//! says by a [`Refusal`] what is wrong and where.
+//! A survey has groups, each with its count of dead and of live objects, and links: where p has a
+//! link to q, its objects may have pointers into q. [`read`] reads a survey file, [`choose`] chooses
+//! the pick of a survey, and [`check`] checks a claim that a set of groups is the pick. Each says by
+//! a [`Refusal`] what is wrong and where. `docs/SPECIFICATION.md` has it all.
 //!
 //! The file of a survey with five groups and four links has three blocks of 512 bytes:
 //!
@@ -39,7 +39,7 @@
 //! - [`model`]: the same functions again in plain Rust, for tests and for comparing speed. It knows
 //!   nothing of the modules above.
 
-#![doc = include_str!("figure2.md")]
+#![doc = include_str!("f2.md")]
 #![deny(unsafe_code)]
 #![warn(missing_docs)]
 

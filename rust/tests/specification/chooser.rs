@@ -1,4 +1,4 @@
-//! The picks of document 01.
+//! The picks of the specification.
 
 use super::checker::{claimed, draft, F7_GROUPS, F7_LINKS};
 use super::support::lists::{Chooser, Lists};

@@ -1,9 +1,9 @@
-//! The cases of document 01, each put to the library and to the model: here those that a reader can
-//! meet, and in modules of their own those of the checker and the chooser.
+//! The cases of the specification, each put to the library and to the model: here those that a
+//! reader can meet, and in modules of their own those of the checker and the chooser.
 
-#[path = "document/checker.rs"]
+#[path = "specification/checker.rs"]
 mod checker;
-#[path = "document/chooser.rs"]
+#[path = "specification/chooser.rs"]
 mod chooser;
 mod support;
 

@@ -1,4 +1,4 @@
-//! The claims of document 01.
+//! The claims of the specification.
 
 use super::support::lists::{Checker, Lists};
 use super::support::packed::packed;
