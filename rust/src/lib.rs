@@ -20,11 +20,14 @@
 //! assert_eq!(survey.groups[4], Group { dead: 10, live: 3 });
 //! assert_eq!(survey.links[0], Link { from: 0, to: 2 });
 //!
-//! // A byte of the second block goes wrong, and its check disagrees.
+//! // A byte of the second block goes wrong, and its check tells.
 //! file[600] ^= 1;
 //! let refusal = read(&file).unwrap_err();
 //! assert_eq!((refusal.number, refusal.place), (3, Place::Block(1)));
-//! assert_eq!(refusal.to_string(), "refused 3 at block 1: a block's check disagrees");
+//! assert_eq!(
+//!     refusal.to_string(),
+//!     "refused 3 at block 1: the check words are not those of the content"
+//! );
 //! ```
 //!
 //! The modules, from below:

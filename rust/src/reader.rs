@@ -13,7 +13,7 @@ use crate::survey::{Survey, ENTRY, MOST_GROUPS, MOST_LINKS};
 /// let groups = [(2, 2), (4, 3), (1, 12), (6, 3), (10, 3)];
 /// let refusal = read(&model::build(5, 1, &groups, &[(3, 3)])).unwrap_err();
 /// assert_eq!(refusal.number, 11);
-/// assert_eq!(refusal.to_string(), "refused 11: the links have a cycle");
+/// assert_eq!(refusal.to_string(), "refused 11: there is a cycle");
 /// ```
 ///
 /// # Errors
