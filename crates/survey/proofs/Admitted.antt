@@ -89,7 +89,7 @@ admitted-sound {s} a =
     none-dead : D s allGroups ≡ 0 → (g : ℕ) → g < s .n → deadOf s g ≡ 0
     none-dead z g l = omega (arith, member-le s (deadOf s) allGroups g l refl)
 
--- D and L of a set are at most that many groups' counts.
+-- What D and L can come to: the counts of as many groups as there may be.
 module _ {s : Survey} (x : Sound s) (S : Set) where
   some-of : (f : ℕ → ℕ) → ((g : ℕ) → g < s .n → f g ≤ countLimit) → total s f S ≤ sumLimit
   unfolding total

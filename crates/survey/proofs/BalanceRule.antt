@@ -12,7 +12,7 @@ use Rattle.survey.proofs.Reaching.{Inside}
 use Rattle.survey.proofs.Totals.{total-mul, total-zero, member-le}
 use Rattle.survey.proofs.BalanceLaw.{leaving, excess, lack, leaves-none, balance-law}
 
--- what a set weighs, with D and L of the current set
+-- what a set weighs, by the weights that C gives
 pub weighs-plus : (s : Survey) (C B : Set) → totalPlus s (weights s C) B ≡ D s B * L s C
 weighs-plus s C B = total-mul s (deadOf s) (L s C) B
 

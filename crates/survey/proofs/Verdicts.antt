@@ -1,4 +1,5 @@
--- Which verdict is given: there is only one, and where the order of looking ascends it has the lowest number whose fault is there (Specification 10).
+-- Which verdict is given: there is only one, and where the order of looking ascends it has the lowest number that there is a fault for
+-- (Specification 10).
 use Prim.Native.Nat.{ℕ, _≤_, _<_}
 use native.Mathlib.Nat.{le-refl}
 use native.Mathlib.Decide.{decLt}
