@@ -190,7 +190,7 @@ module _ {n e : ℕ} {links plus minus marks amounts ends p m : List ℕ} (c : W
         bit true = omega arith
         bit false = omega arith
 
--- Two results that are allowed have the same marks. (Not the same amounts: several may meet the balance rule.)
+-- Two results that are allowed have the same marks. (Not the same amounts: there can be several that prove it.)
 pub heaviest-one :
     {n e : ℕ} {links plus minus marks amounts p m t a p′ m′ t′ a′ : List ℕ} → Heavy n e links plus minus marks amounts p m t a → Heavy n e links plus minus marks amounts p′ m′ t′ a′ → t ≡ t′
 heaviest-one {n} {e} {links} {plus} {minus} {marks} {t = t} {t′ = t′} x y = ext-getD 0 t t′ (x .marks-long ∙ sym (y .marks-long)) (λ g l. go g (ltb g n) refl)
