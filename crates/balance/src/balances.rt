@@ -36,7 +36,7 @@ fn add_amounts(e: usize, links: &[u8], amounts: &[u8], credit: &mut [u64], debit
     }
 }
 
-// The two halves of each balance, with D and L of the claimed set. d is its D.
+// The two halves of each balance, by the weights of the claimed set. d is its D.
 pub fn put_balances(
     n: usize,
     e: usize,
