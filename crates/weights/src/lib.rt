@@ -66,7 +66,7 @@ pub fn live_sum(n: usize, groups: &[u8], marks: &[u8]) -> Live
     sum
 }
 
-// The weight of each group, its two halves apart: plus[g] is dead·L and minus[g] is cost·D, where d and l are D and L of the current set.
+// The weight of each group, its two halves apart: plus[g] is dead·L and minus[g] is cost·D, where d and l are the sums of the set that gives the weights.
 pub fn put_weights(n: usize, groups: &[u8], d: Dead, l: Live, plus: &mut [u64], minus: &mut [u64])
     requires { ⌜ Puttable n (now groups) (d .0) (l .0) (now plus) (now minus) ⌝ }
     ensures { λ r. ⌜ WeightsPut n (now (groups .entry)) (d .0) (l .0) (now (plus .entry)) (now (minus .entry)) (now (plus .exit)) (now (minus .exit)) ⌝ }
