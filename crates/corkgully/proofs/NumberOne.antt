@@ -20,7 +20,7 @@ read-number-one a b =
     let same = reader-one (a .says) (b .says) in
     record { answer = a .is ∙ ap (λ (r : Reading). readingNumber r) (same .answer) ∙ sym (b .is); groups = same .groups; links = same .links }
 
--- The chooser's amounts are the one exception: several may meet the balance rule.
+-- The chooser's amounts are the one exception: there can be several that pass the balance rule.
 pub choose-number-one :
     {n e : ℕ} {groups links marks amounts : List ℕ} {x x′ : ℕ} {m m′ a a′ : List ℕ} → ChooseNumber n e groups links marks amounts x m a → ChooseNumber n e groups links marks amounts x′ m′ a′
     → (x ≡ x′) × (m ≡ m′)

@@ -1,4 +1,4 @@
-// What the ingest tool links: functions on numbers and byte slices. Each answer is one number; crates/boundary packs it.
+// What the ingest tool links (Specification 12). What goes in is numbers and slices of bytes. Each answer is one number; crates/boundary packs it.
 use boundary::choice_number;
 use boundary::judgement_number;
 use boundary::reading_number;
