@@ -31,7 +31,7 @@ F2_GROUPS = [(2, 2), (4, 3), (1, 12), (6, 3), (10, 3)]
 F2_LINKS = [(0, 2), (1, 2), (1, 3), (1, 4)]
 f2 = survey(F2_GROUPS, F2_LINKS)
 assert len(f2) == 3 * 512
-assert struct.unpack("<2I", f2[504:512]) == (11, 1363)        # "The header of F2 has check words a = 11, b = 1,363."
+assert struct.unpack("<2I", f2[504:512]) == (11, 1363)        # a and b of its header
 
 FILES = {
     "crates/pick/stdin": f2,

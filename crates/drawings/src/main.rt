@@ -61,7 +61,7 @@ fn check_words(name: &[u8], path: &[u8]) {
 
 // ---- cases that are lists, made here and given to the chooser
 
-// The groups of F2: 2:2, 4:3, 1:12, 6:3, 10:3. Each count is below 256, so its low byte says it.
+// The groups of F2. Each count is below 256, so its low byte says it.
 fn f2_groups() -> [u8; 1_024] {
     let mut groups = [0u8; 1_024];
     groups[0] = 2;
@@ -146,7 +146,7 @@ fn from_files() {
     file_case(b"one group 0:5: ", b"one_group_0_5.dat");
 }
 
-// A link from a group to itself, one to a group that is not there, and one that stands twice.
+// A link of which both ends are one group, one to a group that is not there, and one that stands twice.
 fn from_lists() {
     let groups = f2_groups();
     let to_itself = links_of(3, 3, 0, 0);
