@@ -90,8 +90,7 @@ module _
 
 -- ---- the balances are checked and no more, so that a set passes which is not the largest
 
--- The balance rule without its last word: the set is closed with D above 0, no balance is above 0, in the set every balance is 0 and no amount
--- leaves it.
+-- The balance rule without its last word: the set is a candidate, each balance is 0 or below, and the set is settled.
 pub record LargestForgotten (s : Survey) (marks amounts : List ℕ) : Type 0 where
   pub candidate : Candidate s (markedSet marks)
   pub noneAbove : (g : ℕ) → g < s .n → BalanceAbove0 s (weights s (markedSet marks)) (amountsOf amounts) g → ⊥
