@@ -1,5 +1,4 @@
--- Numbers in bytes. Document 01, "What is built": "a group or a link is its pair of words as in the file, an amount is 8 bytes,
--- low byte first, and a mark is one byte; a list's length is its number of whole entries."
+-- Specification 8, "Numbers in bytes": words, entries and where they stand, surveys and claims given as lists.
 use Prim.Native.Nat.{ℕ, _+_, _*_, _/_, _<_}
 use mathlib.Core.Path.{_≡_}
 use mathlib.Core.Bool.{Bool, cond}
@@ -11,15 +10,15 @@ use Rattle.survey.specs.Survey.{Group, Link, Survey}
 use Rattle.survey.specs.Sets.{Set}
 use Rattle.survey.specs.Balance.{Amounts}
 
--- the little-endian 32-bit word whose four bytes begin at place i
+-- 8.1: the word whose four bytes, the lowest first, begin at place i
 abbrev pub word : List ℕ → ℕ → ℕ
 word l i = getD l i 0 + 256 * getD l (i + 1) 0 + 65_536 * getD l (i + 2) 0 + 16_777_216 * getD l (i + 3) 0
 
--- the number whose 8 bytes, low byte first, begin at place i: two words, the low one first
+-- 8.1: the long word whose eight bytes, the lowest first, begin at place i: its low word and then its high word
 abbrev pub longWord : List ℕ → ℕ → ℕ
 longWord l i = word l i + 4_294_967_296 * word l (i + 4)
 
--- Where the entries of a list stand. In a lent list entry k stands at 8·k; in the blocks of a file, 62 to a block, the next block
+-- 8.3: where the entries of a list stand. In a lent list entry k begins at byte 8·k; in the blocks of a file (9.5), 62 to a block, the next block
 -- stands 16 bytes further on. So everywhere: at base + 8·k + gap·(k / 62).
 pub record Stand : Type 0 where
   pub base : ℕ
@@ -31,11 +30,11 @@ standsAt w k = w .base + entryBytes * k + w .gap * (k / blockPairs)
 abbrev pub lent : Stand
 lent = record { base = 0; gap = 0 }
 
--- "a list's length is its number of whole entries"
+-- 8.4: the length of a list is how many entries it has whole.
 abbrev pub entries : List ℕ → ℕ
 entries l = length l / entryBytes
 
--- "two words as in the file, .. dead then live; a link likewise, p then q"
+-- 8.2: a group is the words of its dead and of its live count, a link those of its from and of its to, an amount one long word.
 abbrev pub groupAt : List ℕ → Stand → ℕ → Group
 groupAt l w k = record { dead = word l (standsAt w k); live = word l (standsAt w k + 4) }
 
@@ -49,7 +48,7 @@ amountAt l w k = longWord l (standsAt w k)
 abbrev pub upTo {ℓ} : {A : Type ℓ} → ℕ → A → (ℕ → A) → ℕ → A
 upTo n z f k = cond (ltb k n) (f k) z
 
--- the survey that n, e and two lists of entries give; nothing stands past its n groups and e links
+-- 8.5: n, e and two lists give a survey, the first n entries of the one and the first e of the other. What stands after them is no part of it.
 unfoldable pub surveyAt : ℕ → ℕ → List ℕ → Stand → List ℕ → Stand → Survey
 surveyAt n e g wg l wl =
     record {
@@ -59,11 +58,11 @@ surveyAt n e g wg l wl =
       link = upTo e (record { from = 0; to = 0 }) (linkAt l wl);
     }
 
--- "given as lists"
+-- 8.5: a survey given as lent lists
 abbrev pub surveyOf : ℕ → ℕ → List ℕ → List ℕ → Survey
 surveyOf n e g l = surveyAt n e g lent l lent
 
--- "one mark per group (1 in the set, 0 not)"
+-- 8.6: the marked set has those groups whose mark is 1, and the amount of link k is entry k of its list.
 abbrev pub markedSet : List ℕ → Set
 markedSet m g = eqb (getD m g 0) 1
 
