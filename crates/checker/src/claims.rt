@@ -43,7 +43,7 @@ pub fn first_above_limit(e: usize, amounts: &[u8]) -> Found
     Found::Missing
 }
 
-// "p out, q in"
+// 15: from out, to in
 fn is_open(links: &[u8], marks: &[u8], k: usize) -> bool
     requires { ⌜ LinkMarked (now links) (now marks) k ⌝ }
     ensures { λ r. ⌜ Tells (Open (now (links .entry)) (now (marks .entry)) k) r ⌝ }

@@ -1,5 +1,5 @@
--- Specification 13, "Promises": what reader, chooser and checker promise, whole. The answer, and what is afterwards in every place that was lent, for
--- each call, one that is refused too.
+-- Specification 13, "Promises": what reader, chooser and checker promise, whole. Whatever goes in, and also where it is refused, the answer is fixed and
+-- every byte of every lent list after the call.
 use Prim.Native.Nat.{ℕ, _+_, _*_, _/_, _%_, _≤_, _<_}
 use mathlib.Core.Path.{_≡_}
 use mathlib.Core.Logic.{_⊎_}
