@@ -8,6 +8,7 @@ use lib.Dec.{ltb}
 abbrev pub lineFeed : List ℕ
 lineFeed = 10 ∷ []
 
+-- what stands between a word and a number
 abbrev pub space : List ℕ
 space = 32 ∷ []
 

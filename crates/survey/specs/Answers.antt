@@ -27,11 +27,12 @@ placeNumber (Link k) = k
 abbrev pub refusalNumber : Refusal → ℕ
 refusalNumber r = r .number + 256 * sortNumber (r .place) + 65_536 * placeNumber (r .place)
 
--- 12.2: each part's answer has cases. What refuses is a refusal; all else is fine.
+-- 12.2: each part's answer has cases. Whether a survey is admitted: refused, or admitted.
 abbrev pub admissionVerdict : Admission → Verdict
 admissionVerdict (Admission.Refused r) = refused r
 admissionVerdict Admission.Admitted = fine
 
+-- 12.2: the reader refuses, or has read.
 abbrev pub readingVerdict : Reading → Verdict
 readingVerdict (Reading.Refused r) = refused r
 readingVerdict (Reading.Survey n e) = fine
@@ -41,6 +42,7 @@ abbrev pub readingNumber : Reading → ℕ
 readingNumber (Reading.Refused r) = refusalNumber r
 readingNumber (Reading.Survey n e) = 65_536 * n + 4_294_967_296 * e
 
+-- 12.2: the chooser refuses, or has chosen.
 abbrev pub choiceVerdict : Choice → Verdict
 choiceVerdict (Choice.Refused r) = refused r
 choiceVerdict (Choice.Chosen rounds) = fine
@@ -50,6 +52,7 @@ abbrev pub choiceNumber : Choice → ℕ
 choiceNumber (Choice.Refused r) = refusalNumber r
 choiceNumber (Choice.Chosen rounds) = 65_536 * rounds
 
+-- 12.2: the checker refuses, or has accepted.
 abbrev pub judgementVerdict : Judgement → Verdict
 judgementVerdict (Judgement.Refused r) = refused r
 judgementVerdict Judgement.Accepted = fine

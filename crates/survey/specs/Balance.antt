@@ -19,16 +19,19 @@ gets s a g = sum (s .e) (λ k. only (eqb (s .link k .from) g) (a k))
 unfoldable pub pays : Survey → Amounts → ℕ → ℕ
 pays s a g = sum (s .e) (λ k. only (eqb (s .link k .to) g) (a k))
 
--- 7.2: the balance of g begins with its weight; then what it gets is added, and what it pays is taken away. It is credit less debit.
+-- 7.2: the balance of g begins with its weight; then what it gets is added, and what it pays is taken away. What is added, in all:
 abbrev pub credit : Survey → Weights → Amounts → ℕ → ℕ
 credit s w a g = w .plus g + gets s a g
 
+-- 7.2: what is taken away, in all
 abbrev pub debit : Survey → Weights → Amounts → ℕ → ℕ
 debit s w a g = w .minus g + pays s a g
 
+-- 7.2: the balance, which is credit less debit, is above 0
 abbrev pub BalanceAbove0 : Survey → Weights → Amounts → ℕ → Type 0
 BalanceAbove0 s w a g = debit s w a g < credit s w a g
 
+-- 7.2: the balance is 0
 abbrev pub BalanceIs0 : Survey → Weights → Amounts → ℕ → Type 0
 BalanceIs0 s w a g = debit s w a g ≡ credit s w a g
 

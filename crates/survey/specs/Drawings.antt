@@ -15,13 +15,15 @@ use Rattle.survey.specs.Rounds.{RoundsOf}
 use Rattle.survey.specs.Refusals.{Verdict, fine, refused, Answers}
 use Rattle.survey.specs.Faults.{listFaults, claimFaults}
 
--- counts as they are written, dead:live
+-- a group by its counts, written dead:live
 abbrev pub counts : ℕ → ℕ → survey.Group
 counts dead live = record { dead = dead; live = live }
 
+-- a link, written (p, q)
 abbrev pub link : ℕ → ℕ → survey.Link
 link from to = record { from = from; to = to }
 
+-- 15.1: the survey of some groups and links, numbered as they stand
 abbrev pub drawn : List survey.Group → List survey.Link → Survey
 drawn groups links =
     record { n = length groups; e = length links; group = λ g. getD groups g (counts 0 0); link = λ k. getD links k (link 0 0) }
@@ -31,10 +33,11 @@ abbrev pub setOf : List ℕ → Set
 setOf [] g = false
 setOf (p ∷ ps) g = eqb p g || setOf ps g
 
+-- the amounts on the links, one after the other
 abbrev pub amountsIn : List ℕ → ℕ → ℕ
 amountsIn a k = getD a k 0
 
--- What a case says of its survey.
+-- 15.2: what a case says of its survey.
 pub data Drawing : Type 0 where
   -- the pick is the set of these groups
   picks : Survey → List ℕ → Drawing
@@ -45,16 +48,18 @@ pub data Drawing : Type 0 where
   -- the claim of these marks and amounts is answered so
   claim : Survey → List ℕ → List ℕ → Verdict → Drawing
 
--- and what it means
+-- 15.2: what that means in the words of the definitions
 abbrev pub Holds : Drawing → Type 0
 Holds (picks s groups) = IsPick s (setOf groups)
 Holds (sums s groups dead live) = (D s (setOf groups) ≡ dead) × (L s (setOf groups) ≡ live)
 Holds (rounds s k groups) = RoundsOf s k (setOf groups)
 Holds (claim s marks amounts v) = Answers (listFaults s ++ claimFaults s marks (amountsIn amounts)) v
 
+-- 15.2: a case comes out accepted
 abbrev pub accepted : Verdict
 accepted = fine
 
+-- 15.2: or refused, by number and place
 abbrev pub refusedAt : ℕ → Place → Verdict
 refusedAt number place = refused (record { number = number; place = place })
 
@@ -68,19 +73,19 @@ f2 =
 abbrev pub f7 : Survey
 f7 = drawn (counts 2 1 ∷ counts 0 2 ∷ counts 3 0 ∷ counts 3 0 ∷ []) (link 0 1 ∷ link 1 2 ∷ link 1 3 ∷ [])
 
--- two groups alike
+-- 15.2: two groups alike
 abbrev pub twoAlike : Survey
 twoAlike = drawn (counts 1 1 ∷ counts 1 1 ∷ []) []
 
--- a group in which nothing is live, beside one that has something
+-- 15.2: a group in which nothing is live, beside one that has something
 abbrev pub nothingLive : Survey
 nothingLive = drawn (counts 3 0 ∷ counts 5 1 ∷ []) []
 
--- the same with an empty group
+-- 15.2: the same with an empty group
 abbrev pub withEmptyGroup : Survey
 withEmptyGroup = drawn (counts 3 0 ∷ counts 5 1 ∷ counts 0 0 ∷ []) []
 
--- one group by itself
+-- 15.2: one group by itself
 abbrev pub oneGroup : Survey
 oneGroup = drawn (counts 1 0 ∷ []) []
 
@@ -117,6 +122,7 @@ pub record Row : Type 0 where
   pub dead : ℕ
   pub live : ℕ
 
+-- such a row
 abbrev pub row : List ℕ → ℕ → ℕ → Row
 row groups dead live = record { groups = groups; dead = dead; live = live }
 
@@ -139,7 +145,7 @@ table1 =
     ∷ row (0 ∷ 1 ∷ 3 ∷ 4 ∷ []) 22 11
     ∷ []
 
--- A row is right: its set is closed and has those sums.
+-- 15.2: a row is right if its set is closed and has those sums.
 pub record RowHolds (s : Survey) (r : Row) : Type 0 where
   pub closed : Closed s (setOf (r .groups))
   pub dead : D s (setOf (r .groups)) ≡ r .dead

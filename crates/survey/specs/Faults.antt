@@ -18,12 +18,15 @@ pub record LentList : Type 0 where
   pub has : ℕ
   pub needs : ℕ
 
+-- 11.1, row 1: a list of groups or of marks needs 128
 abbrev pub groupList : ℕ → LentList
 groupList k = record { has = k; needs = groupLimit }
 
+-- 11.1, row 1: a list of links or of amounts needs 1,024
 abbrev pub linkList : ℕ → LentList
 linkList k = record { has = k; needs = linkLimit }
 
+-- 11.1, row 1: some list has fewer than it needs
 unfoldable pub OneShort : List LentList → Type 0
 OneShort [] = ⊥
 OneShort (l ∷ ls) = (l .has < l .needs) ⊎ OneShort ls
@@ -154,9 +157,10 @@ checkerFaults n e groups links marks amounts =
     tooShort (callLists groups links marks amounts)
     ∷ (listFaults (surveyOf n e groups links) ++ claimFaults (surveyOf n e groups links) marks (amountsOf amounts))
 
--- 11.3: a survey in a file is admitted if the file has no fault from 2 to 12; one given as lists, if it has neither 5 nor any from 8 to 12.
+-- 11.3: a survey in a file is admitted if the file has no fault from 2 to 12,
 pub record AdmittedFile (f : List ℕ) : Type 0 where
   pub clear : AllClear (fileFaults f)
 
+-- 11.3: and one given as lists if it has neither 5 nor any fault from 8 to 12.
 pub record Admitted (s : Survey) : Type 0 where
   pub clear : AllClear (listFaults s)

@@ -12,6 +12,7 @@ pub record Candidate (s : Survey) (S : Set) : Type 0 where
 abbrev pub Better : ℕ → ℕ → ℕ → ℕ → Type 0
 Better dA lA dB lB = lA * dB < lB * dA
 
+-- 5.2: the same of two sets
 abbrev pub BetterSet : Survey → Set → Set → Type 0
 BetterSet s A B = Better (D s A) (L s A) (D s B) (L s B)
 

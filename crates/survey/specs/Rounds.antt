@@ -4,7 +4,7 @@ use mathlib.Core.Path.{_≡_}
 use Rattle.survey.specs.Survey.{Survey}
 use Rattle.survey.specs.Sets.{Set, Eligible, Contains, total, allGroups, deadOf, costOf, D, L}
 
--- A weight may be below 0. So it is kept as plus and minus; two such are compared crosswise, and nothing is subtracted.
+-- 6.1: a weight may be below 0. So it is kept as plus and minus; two such are compared crosswise, and nothing is subtracted.
 pub record Weights : Type 0 where
   pub plus : ℕ → ℕ
   pub minus : ℕ → ℕ
@@ -13,18 +13,19 @@ pub record Weights : Type 0 where
 abbrev pub weights : Survey → Set → Weights
 weights s C = record { plus = λ g. deadOf s g * L s C; minus = λ g. costOf s g * D s C }
 
--- 6.1: the weight of a set is the sum over its groups. Its two halves:
+-- 6.1: the weight of a set is the sum over its groups: what is added,
 abbrev pub totalPlus : Survey → Weights → Set → ℕ
 totalPlus s w S = total s (w .plus) S
 
+-- 6.1: and what is taken off
 abbrev pub totalMinus : Survey → Weights → Set → ℕ
 totalMinus s w S = total s (w .minus) S
 
--- B weighs at most what S weighs
+-- 6.2: B has no more weight than S
 abbrev pub WeighsAtMost : Survey → Weights → Set → Set → Type 0
 WeighsAtMost s w B S = totalPlus s w B + totalMinus s w S ≤ totalPlus s w S + totalMinus s w B
 
--- S weighs 0
+-- 6.3: S has the weight 0
 abbrev pub WeighsZero : Survey → Weights → Set → Type 0
 WeighsZero s w S = totalPlus s w S ≡ totalMinus s w S
 

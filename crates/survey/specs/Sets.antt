@@ -8,25 +8,31 @@ use Rattle.survey.specs.Survey.{Group, Survey}
 abbrev pub Set : Type 0
 Set = ℕ → Bool
 
+-- 4.1: g is in the set
 abbrev pub In : Set → ℕ → Type 0
 In S g = S g ≡ true
 
+-- 4.1: g is not
 abbrev pub Out : Set → ℕ → Type 0
 Out S g = S g ≡ false
 
--- 4.1: all groups, the empty set, the union of two sets, what two share, and what is outside of one
+-- 4.1: the set of all groups
 abbrev pub allGroups : Set
 allGroups g = true
 
+-- 4.1: the empty set
 abbrev pub noGroup : Set
 noGroup g = false
 
+-- 4.1: the union of two sets
 abbrev pub union : Set → Set → Set
 union A B g = A g || B g
 
+-- 4.1: what two sets share
 abbrev pub meet : Set → Set → Set
 meet A B g = A g && B g
 
+-- 4.1: what is outside of a set
 abbrev pub outside : Set → Set
 outside S g = not (S g)
 
@@ -56,7 +62,7 @@ abbrev pub only : Bool → ℕ → ℕ
 only true x = x
 only false x = 0
 
--- the sum of f over the groups of the survey that are in S
+-- 4.4: the sum of f over the groups of the survey that are in S
 unfoldable pub total : Survey → (ℕ → ℕ) → Set → ℕ
 total s f S = sum (s .n) (λ g. only (S g) (f g))
 
@@ -64,15 +70,18 @@ total s f S = sum (s .n) (λ g. only (S g) (f g))
 abbrev pub cost : Group → ℕ
 cost g = g .live
 
+-- 4.4: the dead count of group g
 abbrev pub deadOf : Survey → ℕ → ℕ
 deadOf s g = s .group g .dead
 
+-- 4.4: the cost of group g
 abbrev pub costOf : Survey → ℕ → ℕ
 costOf s g = cost (s .group g)
 
--- 4.4: D adds up the dead counts of the groups in a set, L their costs.
+-- 4.4: D adds up the dead counts of the groups in a set.
 abbrev pub D : Survey → Set → ℕ
 D s S = total s (deadOf s) S
 
+-- 4.4: L adds up their costs.
 abbrev pub L : Survey → Set → ℕ
 L s S = total s (costOf s) S

@@ -30,7 +30,7 @@ sumsBegin = record { a = 1; b = 0 }
 abbrev pub sumsAfter : Sums → ℕ → Sums
 sumsAfter c x = record { a = (c .a + x) % 2 ^ 32; b = (c .b + (c .a + x) % 2 ^ 32) % 2 ^ 32 }
 
--- the two sums over the first k of some words
+-- 9.2: both, after the first k of some words
 unfoldable pub sums : (ℕ → ℕ) → ℕ → Sums
 sums x zero = sumsBegin
 sums x (suc k) = sumsAfter (sums x k) (x k)
@@ -40,17 +40,19 @@ pub record CheckAgrees (f : List ℕ) (b : ℕ) : Type 0 where
   pub first : blockWord f b contentWords ≡ sums (blockWord f b) contentWords .a
   pub second : blockWord f b (contentWords + 1) ≡ sums (blockWord f b) contentWords .b
 
--- 9.3: a block says in content word 0 which number it has, and in content word 1 of which kind it is.
+-- 9.3: a block says in content word 0 which number it has, and in content word 1 of which kind it is. Its number:
 abbrev pub numberIn : List ℕ → ℕ → ℕ
 numberIn f b = blockWord f b 0
 
+-- 9.3: its kind
 abbrev pub kindIn : List ℕ → ℕ → ℕ
 kindIn f b = blockWord f b 1
 
--- 9.4: block 0 has n in word 2 and e in word 3.
+-- 9.4: block 0 has n in word 2,
 abbrev pub nIn : List ℕ → ℕ
 nIn f = blockWord f 0 2
 
+-- 9.4: and e in word 3.
 abbrev pub eIn : List ℕ → ℕ
 eIn f = blockWord f 0 3
 
@@ -58,13 +60,15 @@ eIn f = blockWord f 0 3
 abbrev pub blocksFor : ℕ → ℕ
 blocksFor k = (k + (blockPairs - 1)) / blockPairs
 
--- 9.4: first block 0, then all blocks of groups, then all blocks of links
+-- 9.4: first block 0, then all blocks of groups,
 abbrev pub firstGroupBlock : ℕ
 firstGroupBlock = 1
 
+-- 9.4: then all blocks of links.
 abbrev pub firstLinkBlock : ℕ → ℕ
 firstLinkBlock n = firstGroupBlock + blocksFor n
 
+-- 9.4: the blocks of a survey, all together
 abbrev pub blocksNeeded : ℕ → ℕ → ℕ
 blocksNeeded n e = firstLinkBlock n + blocksFor e
 

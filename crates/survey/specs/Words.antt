@@ -24,9 +24,11 @@ pub record Stand : Type 0 where
   pub base : ℕ
   pub gap : ℕ
 
+-- 8.3: where entry k stands
 abbrev pub standsAt : Stand → ℕ → ℕ
 standsAt w k = w .base + entryBytes * k + w .gap * (k / blockPairs)
 
+-- 8.3: in a lent list, one after the other
 abbrev pub lent : Stand
 lent = record { base = 0; gap = 0 }
 
@@ -34,13 +36,15 @@ lent = record { base = 0; gap = 0 }
 abbrev pub entries : List ℕ → ℕ
 entries l = length l / entryBytes
 
--- 8.2: a group is the words of its dead and of its live count, a link those of its from and of its to, an amount one long word.
+-- 8.2: a group, its dead count and then its live count
 abbrev pub groupAt : List ℕ → Stand → ℕ → Group
 groupAt l w k = record { dead = word l (standsAt w k); live = word l (standsAt w k + 4) }
 
+-- 8.2: a link, its from and then its to
 abbrev pub linkAt : List ℕ → Stand → ℕ → Link
 linkAt l w k = record { from = word l (standsAt w k); to = word l (standsAt w k + 4) }
 
+-- 8.2: an amount, one long word
 abbrev pub amountAt : List ℕ → Stand → ℕ → ℕ
 amountAt l w k = longWord l (standsAt w k)
 
@@ -62,9 +66,10 @@ surveyAt n e g wg l wl =
 abbrev pub surveyOf : ℕ → ℕ → List ℕ → List ℕ → Survey
 surveyOf n e g l = surveyAt n e g lent l lent
 
--- 8.6: the marked set has those groups whose mark is 1, and the amount of link k is entry k of its list.
+-- 8.6: the marked set has those groups whose mark is 1.
 abbrev pub markedSet : List ℕ → Set
 markedSet m g = eqb (getD m g 0) 1
 
+-- 8.6: the amount of link k is entry k of its list.
 abbrev pub amountsOf : List ℕ → Amounts
 amountsOf a k = amountAt a lent k
