@@ -1,4 +1,4 @@
-// The rounds of document 01 over any method of greatest flows. A network has a source that gives each group its weight where that is above 0, a
+// The rounds of Specification 6 over any method of greatest flows. A network has a source that gives each group its weight where that is above 0, a
 // sink that takes it where it is below, and an arc without limit from the end of each link to its start.
 #pragma once
 #include "survey.hpp"

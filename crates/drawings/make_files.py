@@ -1,5 +1,6 @@
 #!/usr/bin/env python3
-"""Makes the survey files of data/ and of the pick program's stdin, from document 01 alone: it shares nothing with the code that reads them.
+"""Makes the survey files of data/ and of the pick program's stdin, from docs/SPECIFICATION.md alone (9, and the cases of 15.3): it shares nothing with
+the code that reads them.
 
 Run it from the root of the repository; the files are committed, and no test runs it.
 """
@@ -30,7 +31,7 @@ F2_GROUPS = [(2, 2), (4, 3), (1, 12), (6, 3), (10, 3)]
 F2_LINKS = [(0, 2), (1, 2), (1, 3), (1, 4)]
 f2 = survey(F2_GROUPS, F2_LINKS)
 assert len(f2) == 3 * 512
-assert struct.unpack("<2I", f2[504:512]) == (11, 1363)        # "The header of F2 has check words a = 11, b = 1,363."
+assert struct.unpack("<2I", f2[504:512]) == (11, 1363)        # a and b of its header
 
 FILES = {
     "crates/pick/stdin": f2,

@@ -17,7 +17,7 @@ pub enum Place {
 }
 
 impl Place {
-    /// The number of the block, group or link. Nothing prints as 0.
+    /// The number of the block, group or link, and 0 for nothing.
     pub fn number(&self) -> u64 {
         match *self {
             Place::Nothing => 0,
@@ -26,8 +26,8 @@ impl Place {
     }
 }
 
-/// Why the library refused: the lowest number whose fault is present, with the lowest place at
-/// fault under it.
+/// Why the library refused: the lowest number that there is a fault for, and of the places that have
+/// it the lowest.
 #[derive(Clone, Copy, Debug, PartialEq, Eq, Hash)]
 pub struct Refusal {
     /// The number of the fault in the table of refusals.
@@ -37,28 +37,28 @@ pub struct Refusal {
 }
 
 impl Refusal {
-    /// The fault in the words of the table of refusals.
+    /// The fault, as the table of refusals has it (`docs/SPECIFICATION.md`, 11.1).
     pub fn fault(&self) -> &'static str {
         match (self.number, self.place) {
-            (1, _) => "a lent list is shorter than 128 (groups) or 1,024 (links)",
-            (2, _) => "file length is 0, no multiple of 512, or above 10,752",
-            (3, _) => "a block's check disagrees",
-            (4, _) => "block 0 hasn't number 0 and kind 1",
-            (5, _) => "n or e outside its range",
-            (6, Place::Nothing) => "the number of blocks doesn't fit n and e",
-            (6, _) => "a wrong number or kind",
-            (7, _) => "an unused word isn't 0",
-            (8, _) => "a dead or live count above 1,000,000",
-            (9, _) => "a link end is n or more",
-            (10, _) => "a link isn't above the one before it",
-            (11, _) => "the links have a cycle",
-            (12, _) => "every dead count is 0",
-            (13, _) => "a mark is neither 0 nor 1",
-            (14, _) => "an amount above its limit",
-            (15, _) => "the claimed set isn't closed: p out, q in",
-            (16, _) => "the claimed set's D is 0",
-            (17, _) => "a balance above 0",
-            (18, _) => "the claimed set isn't the largest set of the balance rule",
+            (1, _) => "a list is too short: 128 groups and marks, 1,024 links and amounts",
+            (2, _) => "the file is empty, too long, or does not end with a whole block",
+            (3, _) => "the check words are not those of the content",
+            (4, _) => "the number of the first block is not 0, or its kind is not 1",
+            (5, _) => "n is 0 or above 128, or e is above 1,024",
+            (6, Place::Nothing) => "there are more blocks or fewer than n and e ask for",
+            (6, _) => "the number or the kind is not the one that belongs there",
+            (7, _) => "a content word without a use is not 0",
+            (8, _) => "a count exceeds 1,000,000",
+            (9, _) => "no group has the number that is the link's from, or its to",
+            (10, _) => "the link does not stand above its predecessor",
+            (11, _) => "there is a cycle",
+            (12, _) => "no group has anything dead",
+            (13, _) => "the mark is something else than 0 or 1",
+            (14, _) => "the amount exceeds its limit",
+            (15, _) => "the link's to is claimed but its from is not",
+            (16, _) => "nothing in the claimed set is dead",
+            (17, _) => "the balance is above 0",
+            (18, _) => "the largest settled set has the group, and the claim leaves it out",
             _ => "a fault that this wrapper has no words for",
         }
     }
@@ -107,22 +107,25 @@ mod tests {
     #[test]
     fn each_sort_of_place_is_unpacked_and_worded() {
         let told = |answer| unpack(answer).unwrap_err().to_string();
-        assert_eq!(told(5), "refused 5: n or e outside its range");
+        assert_eq!(
+            told(5),
+            "refused 5: n is 0 or above 128, or e is above 1,024"
+        );
         assert_eq!(
             told(6),
-            "refused 6: the number of blocks doesn't fit n and e"
+            "refused 6: there are more blocks or fewer than n and e ask for"
         );
         assert_eq!(
             told(6 + 256 + (2 << 16)),
-            "refused 6 at block 2: a wrong number or kind"
+            "refused 6 at block 2: the number or the kind is not the one that belongs there"
         );
         assert_eq!(
             told(8 + 512 + (3 << 16)),
-            "refused 8 at group 3: a dead or live count above 1,000,000"
+            "refused 8 at group 3: a count exceeds 1,000,000"
         );
         assert_eq!(
             told(10 + 768 + (1023 << 16)),
-            "refused 10 at link 1023: a link isn't above the one before it"
+            "refused 10 at link 1023: the link does not stand above its predecessor"
         );
     }
 

@@ -1,11 +1,12 @@
 //! The exported functions as they are: numbers and byte slices in, one answer number out.
 //!
-//! A group is 8 bytes, two words as in the file, low byte first, dead then live; a link likewise,
-//! from then to. An amount is 8 bytes, low byte first, and a mark one byte. A list's length is its
-//! number of whole entries.
+//! An entry of a list has 8 bytes, the lowest first: a group its dead word and its live word, a link
+//! its from and its to, an amount one number. A mark is a single byte. Of a list only whole entries
+//! count.
 //!
-//! The answer of a refusal is number + 256·sort + 65,536·place, with sort 0 nothing (place 0), 1
-//! block, 2 group and 3 link. The low 16 bits of a success are 0.
+//! A refusal is answered by its number, 256 times the sort of its place and 65,536 times the place,
+//! added up; the sort is 0 for nothing, 1 for a block, 2 for a group and 3 for a link. The low 16
+//! bits of a success are 0.
 
 #![allow(unsafe_code)]
 
@@ -68,8 +69,8 @@ pub fn read(file: &[u8], groups: &mut [u8], links: &mut [u8]) -> u64 {
     }
 }
 
-/// Chooses the pick of a survey. Success is 65,536·rounds, and the first n marks and first e
-/// amounts are written: a claim that [`check`] accepts. A refusal writes nothing.
+/// Chooses the pick of a survey. Success is 65,536·rounds, and n marks and e amounts are written: a
+/// claim that [`check`] accepts. A refusal writes nothing.
 pub fn choose(
     n: u64,
     e: u64,

@@ -29,8 +29,8 @@ use crate::survey::Survey;
 ///
 /// # Errors
 ///
-/// Refusals 5, 8 to 12 and 14 to 18: the lowest number whose fault is there, with the lowest place
-/// at fault under it.
+/// Refusals 5, 8 to 12 and 14 to 18: the lowest number that survey or claim has a fault for, and of
+/// the places that have it the lowest.
 pub fn check(survey: &Survey, claim: &Claim) -> Result<(), Refusal> {
     let (groups, links) = survey.lists();
     let (marks, amounts) = claim.lists();
@@ -45,7 +45,7 @@ pub fn check(survey: &Survey, claim: &Claim) -> Result<(), Refusal> {
 ///
 /// Refusal 1 where a list of groups or marks has fewer than [`MOST_GROUPS`](crate::MOST_GROUPS)
 /// whole entries, or one of links or amounts fewer than [`MOST_LINKS`](crate::MOST_LINKS); else as
-/// [`check`], and 13 for a mark that is neither 0 nor 1.
+/// [`check`], and 13 for a mark that is something else than 0 or 1.
 pub fn check_lists(
     n: u64,
     e: u64,

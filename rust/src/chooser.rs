@@ -14,7 +14,7 @@ pub struct Pick {
     pub dead: u64,
     /// The sum of its live counts.
     pub live: u64,
-    /// How many rounds it took, the last one counted.
+    /// How many rounds it took, the last among them.
     pub rounds: u64,
     /// The claim that it is the pick, as [`check`](crate::check) accepts it.
     pub claim: Claim,
@@ -39,8 +39,8 @@ pub struct Pick {
 ///
 /// # Errors
 ///
-/// Refusals 5 and 8 to 12: the lowest number whose fault the survey has, with the lowest place at
-/// fault under it.
+/// Refusals 5 and 8 to 12: the lowest number that the survey has a fault for, and of the places that
+/// have it the lowest.
 pub fn choose(survey: &Survey) -> Result<Pick, Refusal> {
     let (groups, links) = survey.lists();
     let (n, e) = (survey.groups.len(), survey.links.len());
@@ -68,9 +68,8 @@ pub fn choose(survey: &Survey) -> Result<Pick, Refusal> {
     })
 }
 
-/// Chooses the pick of a survey given as lent lists, and gives the number of rounds. The first n
-/// marks and first e amounts are written; what stands after them stays, and a refusal changes
-/// nothing.
+/// Chooses the pick of a survey given as lent lists, and gives the number of rounds. n marks and e
+/// amounts are written; what stands after them stays, and a refusal changes nothing.
 ///
 /// # Errors
 ///

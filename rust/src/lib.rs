@@ -1,9 +1,9 @@
 //! The ingest tool's side of corkgully: a safe, typed wrapper of the proved library.
 //!
-//! A survey has groups, each with its count of dead and of live objects, and links: a link from p
-//! to q says that an object in p may point to one in q. [`read`] reads a survey file, [`choose`]
-//! chooses the pick of a survey, and [`check`] checks a claim that a set of groups is the pick. Each
-//! says by a [`Refusal`] what is wrong and where.
+//! A survey has groups, each with its count of dead and of live objects, and links: where p has a
+//! link to q, its objects may have pointers into q. [`read`] reads a survey file, [`choose`] chooses
+//! the pick of a survey, and [`check`] checks a claim that a set of groups is the pick. Each says by
+//! a [`Refusal`] what is wrong and where. `docs/SPECIFICATION.md` has it all.
 //!
 //! The file of a survey with five groups and four links has three blocks of 512 bytes:
 //!
@@ -20,11 +20,14 @@
 //! assert_eq!(survey.groups[4], Group { dead: 10, live: 3 });
 //! assert_eq!(survey.links[0], Link { from: 0, to: 2 });
 //!
-//! // A byte of the second block goes wrong, and its check disagrees.
+//! // A byte of the second block goes wrong, and its check tells.
 //! file[600] ^= 1;
 //! let refusal = read(&file).unwrap_err();
 //! assert_eq!((refusal.number, refusal.place), (3, Place::Block(1)));
-//! assert_eq!(refusal.to_string(), "refused 3 at block 1: a block's check disagrees");
+//! assert_eq!(
+//!     refusal.to_string(),
+//!     "refused 3 at block 1: the check words are not those of the content"
+//! );
 //! ```
 //!
 //! The modules, from below:
@@ -39,7 +42,7 @@
 //! - [`model`]: the same functions again in plain Rust, for tests and for comparing speed. It knows
 //!   nothing of the modules above.
 
-#![doc = include_str!("figure2.md")]
+#![doc = include_str!("f2.md")]
 #![deny(unsafe_code)]
 #![warn(missing_docs)]
 

@@ -9,17 +9,17 @@ use crate::survey::{Survey, ENTRY, MOST_GROUPS, MOST_LINKS};
 /// ```
 /// use corkgully::{model, read};
 ///
-/// // Link (3,3) in a survey of 5: a link from a group to itself is a cycle.
+/// // Five groups and the link (3,3), which by itself is a cycle.
 /// let groups = [(2, 2), (4, 3), (1, 12), (6, 3), (10, 3)];
 /// let refusal = read(&model::build(5, 1, &groups, &[(3, 3)])).unwrap_err();
 /// assert_eq!(refusal.number, 11);
-/// assert_eq!(refusal.to_string(), "refused 11: the links have a cycle");
+/// assert_eq!(refusal.to_string(), "refused 11: there is a cycle");
 /// ```
 ///
 /// # Errors
 ///
-/// Refusals 2 to 12: the lowest number whose fault the file has, with the lowest place at fault
-/// under it.
+/// Refusals 2 to 12: the lowest number that the file has a fault for, and of the places that have
+/// it the lowest.
 pub fn read(file: &[u8]) -> Result<Survey, Refusal> {
     // On the heap, since the caller's stack may be small.
     let mut groups = vec![0; ENTRY * MOST_GROUPS];

@@ -8,7 +8,7 @@ pub const MOST_LINKS: usize = 1024;
 /// The bytes of one entry of a list.
 pub(crate) const ENTRY: usize = 8;
 
-/// What a group holds. The two counts are never added together.
+/// What a group holds. The two counts are different sorts of number, and are not mixed.
 #[derive(Clone, Copy, Debug, PartialEq, Eq, Hash)]
 pub struct Group {
     /// The count of dead objects, 0 to 1,000,000.
@@ -17,7 +17,7 @@ pub struct Group {
     pub live: u32,
 }
 
-/// That an object in one group may point to one in another.
+/// It allows for pointers from objects of one group to objects of another.
 #[derive(Clone, Copy, Debug, PartialEq, Eq, Hash, PartialOrd, Ord)]
 pub struct Link {
     /// The group whose object points.

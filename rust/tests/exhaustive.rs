@@ -17,7 +17,7 @@ fn answer(file: &[u8]) -> u64 {
     answer
 }
 
-/// The survey of figure 2.
+/// The survey F2.
 fn f2() -> Vec<u8> {
     let groups = [(2, 2), (4, 3), (1, 12), (6, 3), (10, 3)];
     model::build(5, 4, &groups, &[(0, 2), (1, 2), (1, 3), (1, 4)])

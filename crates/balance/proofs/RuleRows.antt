@@ -1,4 +1,4 @@
--- The rows of the balance rule, from what the looks find in the lists to what document 01 says of the survey.
+-- The rows of the balance rule, from what the looks find in the lists to what the definitions say of the survey.
 use Prim.Native.Nat.{ℕ, _-_, _≤_, _<_}
 use native.Mathlib.Omega.{arith}
 use mathlib.Core.Path.{_≡_, _∙_}

@@ -72,7 +72,7 @@ pub record BalancesPut (n e : ℕ) (groups links marks amounts credits debits cr
 abbrev pub aboveRow : ℕ → List ℕ → List ℕ → Fault
 aboveRow n credits debits = among 17 n (λ g. getD debits g 0 < getD credits g 0)
 
--- no balance is above 0
+-- each balance is 0 or below
 pub record LacksAsk (n : ℕ) (credits debits : List ℕ) : Type 0 where
   pub room : BalanceLists n credits debits
   pub level : (g : ℕ) → g < n → getD credits g 0 ≤ getD debits g 0

@@ -1,4 +1,4 @@
--- The largest set of the balance rule, as what lies outside the set that drains.
+-- The largest settled set, as what lies outside the set that drains.
 use Prim.Native.Nat.{ℕ, _*_, _≤_}
 use mathlib.Core.List.{List}
 use lib.ListN.{length, getD}

@@ -1,4 +1,4 @@
-// The balances: "its weight, plus the amounts on all links (g, q), minus the amounts on all links (p, g)". What is added and what is subtracted
+// The balances (Specification 7.2): weights, and then amounts. What is added and what is taken away
 // are kept apart, as credit and debit, so that nothing goes below 0.
 use counts::Dead;
 use entries::amount_at;
@@ -37,7 +37,7 @@ fn add_amounts(e: usize, links: &[u8], amounts: &[u8], credit: &mut [u64], debit
     }
 }
 
-// The two halves of each balance, with D and L of the claimed set. d is its D.
+// The two halves of each balance, by the weights of the claimed set. d is its D.
 pub fn put_balances(
     n: usize,
     e: usize,

@@ -1,4 +1,4 @@
-// 18: the largest set of the balance rule is what lies outside the set that drains: the least one that holds each group with a lack and grows
+// 18: the largest settled set (Specification 7.3) is what lies outside the set that drains: the least one that holds each group with a lack and grows
 // along each link from a group in it, and back along each link to one in it that has an amount.
 use crate::sizes::GROUPS;
 use flow::draining::drained;
@@ -33,7 +33,7 @@ fn first_outside(n: usize, t: &[u8], marks: &[u8]) -> Found
     Found::Missing
 }
 
-// The lowest group that is in the largest set and not in the claimed one, where no balance is above 0 and lack has what each is below it.
+// The lowest group that the claim leaves out of the largest settled set, where each balance is 0 or below and lack has how much it is below.
 pub fn first_left_out(
     n: usize,
     e: usize,

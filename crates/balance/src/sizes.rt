@@ -1,4 +1,4 @@
 // The sizes of a survey, for the lists that the balance rule works on.
 
-// "n is 1 to 128"
+// the most groups of a survey
 pub const GROUPS: usize = 128;

@@ -10,7 +10,7 @@ ghost use Prim.Native.Nat.{_<_};
 ghost use Rattle.survey.specs.Answers.{sortNumber, refusalNumber, readingNumber, choiceNumber, judgementNumber};
 ghost use Rattle.boundary.specs.Packed.{SmallRefusal, SmallReading, SmallChoice, SmallJudgement};
 
-// "sort 0 nothing (place 0), 1 block, 2 group, 3 link"
+// Specification 12.2: the sort of a place.
 fn sort_number(p: Place) -> u64
     ensures { λ r. ⌜ (r ≡ sortNumber p) × (r < 4) ⌝ }
 {
@@ -22,7 +22,7 @@ fn sort_number(p: Place) -> u64
     }
 }
 
-// "A refusal: number + 256·sort + 65,536·place"
+// Specification 12.2, refused.
 pub fn refusal_number(r: Refusal) -> u64
     requires { ⌜ SmallRefusal r ⌝ }
     ensures { λ x. ⌜ x ≡ refusalNumber r ⌝ }

@@ -14,7 +14,7 @@ use Rattle.refusals.specs.Searches.{Tells}
 use Rattle.balance.proofs.Looks.{mark-out}
 use Rattle.checker.specs.Claims.{Open}
 
--- "a mark is neither 0 nor 1"
+-- 13: a mark that is something else than 0 or 1
 pub mark-bad : {x : ℕ} → 1 < x → (x ≡ 0) ⊎ (x ≡ 1) → ⊥
 mark-bad h = ⊎-elim (λ e. omega arith) (λ e. omega arith)
 
@@ -33,7 +33,7 @@ second-in : (t : Bool) {u : Bool} → u ≡ false → Tells ((u ≡ false) × (t
 second-in true o = (o, refl)
 second-in false o = λ x. not-both (x .1) refl
 
--- "p out, q in"
+-- 15: from out, to in
 pub open-told :
     (links marks : List ℕ) (k : ℕ) {p q : ℕ} → p ≡ linkAt links lent k .from → q ≡ linkAt links lent k .to → (getD marks p 0 ≡ 1 → ⊥)
     → Tells (Open links marks k) (eqb (getD marks q 0) 1)

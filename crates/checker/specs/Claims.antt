@@ -23,7 +23,7 @@ markRow n marks = badMark (sized n 0) marks
 abbrev pub amountRow : ℕ → List ℕ → Fault
 amountRow e amounts = badAmount (sized 0 e) (amountsOf amounts)
 
--- "p out, q in", of link k as it stands in the list
+-- 15: from out, to in, of link k as it stands in the list
 abbrev pub Open : List ℕ → List ℕ → ℕ → Type 0
 Open links marks k = Out (markedSet marks) (linkAt links lent k .from) × In (markedSet marks) (linkAt links lent k .to)
 

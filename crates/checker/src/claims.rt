@@ -1,5 +1,5 @@
-// What is looked for in a claim, one mark, amount or link at a time: 13, "a mark is neither 0 nor 1", 14, "an amount above its limit", and 15,
-// "the claimed set isn't closed: p out, q in".
+// What is looked for in a claim, one mark, amount or link at a time (Specification 11.1): 13, of a mark, 14, of an amount, and 15, of a link that comes
+// into the claimed set from outside.
 use entries::amount_at;
 use entries::link_at;
 use refusals::found::Found;
@@ -10,7 +10,7 @@ ghost use Rattle.survey.specs.Limits.{entryBytes};
 ghost use Rattle.refusals.specs.Searches.{Finds, Tells};
 ghost use Rattle.checker.specs.Claims.{markRow, amountRow, Open, closedRow, LinkMarked, EndsMarked};
 
-// "one amount per link, from 0 to 20,000,000,000,000,000"
+// the most that a claim puts on a link (Specification 7.1)
 const AMOUNT: u64 = 20_000_000_000_000_000;
 
 // 13: the lowest group at fault.
@@ -44,7 +44,7 @@ pub fn first_above_limit(e: usize, amounts: &[u8]) -> Found
     Found::Missing
 }
 
-// "p out, q in"
+// 15: from out, to in
 fn is_open(links: &[u8], marks: &[u8], k: usize) -> bool
     requires { ⌜ LinkMarked (now links) (now marks) k ⌝ }
     ensures { λ r. ⌜ Tells (Open (now (links .entry)) (now (marks .entry)) k) r ⌝ }

@@ -1,4 +1,4 @@
--- One round: what it asks of the calls is there, and what they leave is a round of document 01.
+-- One round: what it asks of the calls is there, and what they leave is a round of Specification 6.3.
 use Prim.Native.Nat.{ℕ, _+_, _<_, _≤_}
 use native.Mathlib.Nat.{mul-le-mul}
 use native.Mathlib.Omega.{arith}

@@ -29,7 +29,7 @@ pub record Listed (n e : ℕ) (groups links current amounts : List ℕ) : Type 0
   pub current-long : n ≤ length current
   pub amounts-long : entryBytes * e ≤ length amounts
 
--- "Begin with the current set equal to all groups."
+-- Specification 6.1: in the first round the current set is that of all groups.
 pub record AllAsk (n e : ℕ) (groups links current amounts : List ℕ) : Type 0 where
   pub listed : Listed n e groups links current amounts
   pub all : Same (surveyOf n e groups links) allGroups (markedSet current)

@@ -1,4 +1,4 @@
-// The chooser: which groups of a survey may be swept. Rounds over the heaviest closed sets, as document 01 fixes them, on local arrays; marks and
+// The chooser: which groups of a survey may be swept. Rounds over the heaviest closed sets (Specification 6), on local arrays; marks and
 // amounts are written once, at the end, so that a refusal leaves the lent lists as they were.
 mod copies;
 mod rounds;

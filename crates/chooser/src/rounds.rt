@@ -1,5 +1,5 @@
-// Rounds: "give each group the weight dead·L - live·D, with D and L of the current set .. Among all closed sets, the empty one included, take the
-// largest of those with greatest total weight. If that total is 0, this set is the pick and the rounds end. Otherwise it becomes the current set."
+// Rounds (Specification 6): the current set gives weights, by these the heaviest closed set is found, and where that weighs more than 0 it is the
+// current set of a further round.
 use flow::heavy::heaviest;
 use flow::sizes::GROUPS;
 use weights::dead_sum;
@@ -47,7 +47,7 @@ fn round(
     any_above(n, &plus)
 }
 
-// Round after round: "Begin with the current set equal to all groups .. The last round is counted."
+// Round after round, from all groups on. How many there were, the last among them.
 pub fn rounds(
     n: usize,
     e: usize,

@@ -1,4 +1,4 @@
--- Each answer over the boundary is one number, which a definition of crates/survey gives for each case of the answer.
+-- Specification 12.2: each answer over the boundary is one number, which a definition of crates/survey gives for each case of the answer.
 use Prim.Native.Nat.{ℕ}
 use mathlib.Core.Path.{_≡_}
 use mathlib.Core.List.{List}

@@ -1,4 +1,4 @@
-// What the ingest tool links: functions on numbers and byte slices. Each answer is one number; crates/boundary packs it.
+// What the ingest tool links (Specification 12). What goes in is numbers and slices of bytes. Each answer is one number; crates/boundary packs it.
 use boundary::choice_number;
 use boundary::judgement_number;
 use boundary::reading_number;
@@ -30,7 +30,7 @@ pub extern "C" fn corkgully_choose(
     choice_number(choose(n as usize, e as usize, groups, links, marks, amounts))
 }
 
-// A claim on a survey, both as lists. n and e are judged as they come, before any list is looked at; nothing is written.
+// A claim on a survey, both as lists. n and e are judged as they come, before any entry is read; nothing is written.
 #[no_mangle]
 pub extern "C" fn corkgully_check(
     n: u64,

@@ -16,12 +16,12 @@ pub record GroupIs (r : Group) (g : survey.Group) : Type 0 where
   pub dead : r .dead .0 ≡ g .dead
   pub live : r .live .0 ≡ g .live
 
--- "a dead count and a live count, each 0 to 1,000,000"
+-- Specification 3.1: neither count is above its limit
 pub record CountsFit (g : survey.Group) : Type 0 where
   pub dead : g .dead ≤ countLimit
   pub live : g .live ≤ countLimit
 
--- "the weight dead·L - live·D"
+-- Specification 6.1: the two halves of a weight
 pub record WeightIs (r : Weight) (g : survey.Group) (d l : ℕ) : Type 0 where
   pub plus : r .plus ≡ g .dead * l
   pub minus : r .minus ≡ cost g * d

@@ -1,4 +1,4 @@
-// Counts: "A dead count and a live count are never added together or put in one another's place." So each has a type of its own, and what
+// Counts (Specification 3.1). Dead and live are different sorts of number, never mixed: so each has a type of its own, and what
 // compares them, a cross product or a weight, takes one of each.
 ghost use mathlib.Core.Path.{_≡_};
 ghost use Prim.Native.Nat.{_+_, _*_, _^_, _≤_, _<_};
@@ -23,7 +23,7 @@ pub struct Weight {
     pub minus: u64,
 }
 
-// "Opening a group costs nothing beyond its live objects."
+// Specification 4.4: what a group costs is its live count.
 pub fn cost(g: Group) -> Live
     ensures { λ r. ⌜ r .0 ≡ sets.cost (groupOf g) ⌝ }
 {
@@ -39,7 +39,7 @@ pub fn cross(l: Live, d: Dead) -> u64
     live * dead
 }
 
-// The weight of a group, "dead·L - live·D", where d and l are the sums of the current set.
+// Specification 6.1: the weight of a group, where d and l are the sums of the current set.
 pub fn weight_of(g: Group, d: Dead, l: Live) -> Weight
     requires { ⌜ CountsFit (groupOf g) × (d .0 ≤ sumLimit) × (l .0 ≤ sumLimit) ⌝ }
     ensures { λ r. ⌜ WeightIs r (groupOf g) (d .0) (l .0) ⌝ }

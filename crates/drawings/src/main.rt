@@ -1,4 +1,4 @@
-// The cases of document 01 that are not proved as examples of the definitions: one printed line for each. Some are files of data/, some lists.
+// The cases of Specification 15.3, which are run and not proved: one printed line for each. Some are files of data/, some lists.
 use chooser::choose;
 use libc::STDOUT_FILENO;
 use printing::print_pick;
@@ -61,7 +61,7 @@ fn check_words(name: &[u8], path: &[u8]) {
 
 // ---- cases that are lists, made here and given to the chooser
 
-// The groups of F2: 2:2, 4:3, 1:12, 6:3, 10:3. Each count is below 256, so its low byte says it.
+// The groups of F2. Each count is below 256, so its low byte says it.
 fn f2_groups() -> [u8; 1_024] {
     let mut groups = [0u8; 1_024];
     groups[0] = 2;
@@ -137,8 +137,7 @@ fn list_case(name: &[u8], n: usize, e: usize, groups: &[u8], links: &[u8]) {
 
 // ---- the cases
 
-// "A header with n 129 or 0, and a sound check: refused 5. A count of 1,000,001: refused 8." "One group 0:5: refused 12."
-// "The header of F2 has check words a = 11, b = 1,363."
+// A header with n out of range, a count above its limit, a survey with nothing dead; and the check words of F2's header.
 fn from_files() {
     check_words(b"header of F2, check words: ", b"f2.dat");
     file_case(b"header with n 129: ", b"n_129.dat");
@@ -147,7 +146,7 @@ fn from_files() {
     file_case(b"one group 0:5: ", b"one_group_0_5.dat");
 }
 
-// "Link (3,3) in a survey of 5: refused 11. Link (4,5) there: refused 9. (1,2) twice: refused 10."
+// A link of which both ends are one group, one to a group that is not there, and one that stands twice.
 fn from_lists() {
     let groups = f2_groups();
     let to_itself = links_of(3, 3, 0, 0);
@@ -158,7 +157,7 @@ fn from_lists() {
     list_case(b"link (1,2) twice: ", 5, 2, &groups, &twice);
 }
 
-// "128 groups of 1,000,000:1,000,000: all picked."
+// The largest survey without links, all counts at their limit.
 fn largest_counts() {
     let mut groups = [0u8; 1_024];
     millions(&mut groups);

@@ -20,7 +20,7 @@ use Rattle.drawn.proofs.Calls.{groupBytes, linkBytes, Lends, zeros, som
 
 -- ---- F2 and F7, each with calls that lend it
 
--- "2:2, 4:3, 1:12, 6:3, 10:3; links (0,2) (1,2) (1,3) (1,4)"
+-- F2 (Specification 15.1)
 abbrev pub f2Groups : List Group
 f2Groups = counts 2 2 ∷ counts 4 3 ∷ counts 1 12 ∷ counts 6 3 ∷ counts 10 3 ∷ []
 
@@ -30,7 +30,7 @@ f2Links = link 0 2 ∷ link 1 2 ∷ link 1 3 ∷ link 1 4 ∷ []
 pub f2-lent : (marks amounts : List ℕ) → Lends f2 (groupBytes f2Groups ++ zeros 1_024) (linkBytes f2Links ++ zeros 8_192) (marks ++ zeros 128) (amounts ++ zeros 8_192)
 f2-lent = some-call f2Groups f2Links
 
--- "2:1, 0:2, 3:0, 3:0; links (0,1) (1,2) (1,3)"
+-- F7 (Specification 15.1)
 abbrev pub f7Groups : List Group
 f7Groups = counts 2 1 ∷ counts 0 2 ∷ counts 3 0 ∷ counts 3 0 ∷ []
 
@@ -56,19 +56,19 @@ pub uneven-admitted : Admitted uneven
 unfolding right saysTest insideTest allBelow lowestBelow verdictOf verdictTest surveyTests somewhere anyLink via hasCycle
 uneven-admitted = right-holds (admits uneven) refl
 
--- "Pick {1,4}"
+-- F2: its pick is {1,4}.
 pub f2-pick : IsPick f2 (setOf (1 ∷ 4 ∷ []))
 f2-pick = drawings-hold .0
 
--- "rounds 4"
+-- F2: 4 rounds.
 pub f2-rounds : RoundsOf f2 4 (setOf (1 ∷ 4 ∷ []))
 f2-rounds = drawings-hold .1 .1 .0
 
--- "Pick all"
+-- F7: its pick is all groups.
 pub f7-pick : IsPick f7 (setOf (0 ∷ 1 ∷ 2 ∷ 3 ∷ []))
 f7-pick = drawings-hold .1 .1 .1 .1 .1 .1 .0
 
--- "1 round"
+-- F7: one round.
 pub f7-rounds : RoundsOf f7 1 (setOf (0 ∷ 1 ∷ 2 ∷ 3 ∷ []))
 f7-rounds = drawings-hold .1 .1 .1 .1 .1 .1 .1 .1 .0
 

@@ -1,4 +1,4 @@
--- Calls of chooser and checker that lend a drawing of document 01: its groups and links as bytes, and after them whatever stands there.
+-- Calls of chooser and checker that lend a drawing: its groups and links as bytes, and after them whatever stands there.
 use Prim.Native.Nat.{ℕ, zero, suc, _+_, _*_, _≤_, _<_}
 use native.Mathlib.Nat.{add-zero}
 use native.Mathlib.Omega.{arith}

@@ -126,7 +126,7 @@ file-admitted {f} h c a = record { clear = clear-both (blockFaults f) (surveyFau
 abbrev block : ℕ → ℕ → List ℕ → ℕ → List ℕ → List ℕ → List ℕ
 block number kind used unused check rest = pair number kind (used ++ (zeros unused ++ (check ++ rest)))
 
--- "Case F2 .., as a file of 3 blocks"; "The header of F2 has check words a = 11, b = 1,363": 83 + 256·5.
+-- F2 in three blocks. The check words of its header are 11 and 1,363, which is 83 + 256·5 (Specification 15.3).
 abbrev pub f2File : List ℕ
 f2File =
     block 0 1 (pair 5 4 []) 488 (11 ∷ 0 ∷ 0 ∷ 0 ∷ 83 ∷ 5 ∷ 0 ∷ 0 ∷ [])
@@ -139,7 +139,7 @@ f7File =
     (block 1 2 (groupBytes f7Groups) 464 (15 ∷ 0 ∷ 0 ∷ 0 ∷ 37 ∷ 7 ∷ 0 ∷ 0 ∷ [])
     (block 2 3 (linkBytes f7Links) 472 (14 ∷ 0 ∷ 0 ∷ 0 ∷ 181 ∷ 6 ∷ 0 ∷ 0 ∷ []) []))
 
--- its header's check words, as document 01 gives them
+-- its header's check words, as numbers
 pub f2-header : (blockWord f2File 0 contentWords ≡ 11) × (blockWord f2File 0 (contentWords + 1) ≡ 1_363)
 f2-header = (refl, refl)
 

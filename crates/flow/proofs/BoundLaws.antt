@@ -1,5 +1,5 @@
 -- Nothing wraps. Where the links have no cycle and no lack is above its minus, what is on the links into a group, or out of it, is at most the
--- total plus: all of it crosses one cut between the groups of low rank and those of high rank (design/mathematics.md, 16).
+-- total plus: all of it crosses one cut between the groups of low rank and those of high rank (docs/MATHEMATICS.md, 9).
 use Prim.Native.Nat.{ℕ, _+_, _≤_, _<_}
 use native.Mathlib.Omega.{arith}
 use mathlib.Core.Path.{_≡_, refl, sym, _∙_}

@@ -1,5 +1,5 @@
-// The pick of one survey from standard input, or why it is refused. "The program reads at most one byte more than the largest file; a read that
-// fails ends the input." What is printed is settled by printing::print_pick.
+// The pick of one survey from standard input, or why it is refused (Specification 14). Where a read fails, the input ends. What is printed is
+// settled by printing::print_pick.
 use printing::print_pick;
 
 // one byte more than the largest file, so that a longer one is seen to be longer

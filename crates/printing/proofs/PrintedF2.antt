@@ -1,4 +1,4 @@
--- Document 01: "Case F2 below, as a file of 3 blocks, gives exactly" these four lines, of the definition.
+-- Specification 14.4: of F2's three blocks these four lines are printed.
 use mathlib.Core.Path.{_≡_, refl, sym, ap, subst, _∙_}
 use mathlib.Core.List.{List, [], _∷_, _++_}
 use Prim.Native.Nat.{ℕ}

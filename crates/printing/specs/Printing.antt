@@ -1,4 +1,4 @@
--- Document 01, "What the program prints".
+-- Specification 14, "Printing": the text of a survey file.
 use Prim.Native.Nat.{ℕ, zero, suc}
 use mathlib.Core.Path.{_≡_}
 use mathlib.Core.Bool.{cond}
@@ -16,15 +16,15 @@ use Rattle.survey.specs.Faults.{fileFaults, AdmittedFile}
 use Rattle.survey.specs.Answers.{placeNumber}
 use Rattle.printing.specs.Texts.{lineFeed, space, surveyWord, chosenWord, deadWord, liveWord, roundsWord, refusedWord, decimal, named}
 
--- "First line: `survey n e`."
+-- 14.2, the first line: the survey's n and e
 abbrev pub surveyLine : ℕ → ℕ → List ℕ
 surveyLine n e = named surveyWord n ++ named space e ++ lineFeed
 
--- "Second: `chosen k dead D live L rounds r`"
+-- 14.2, the second line: how many groups, their sums, and the count of rounds
 abbrev pub chosenLine : ℕ → ℕ → ℕ → ℕ → List ℕ
 chosenLine k d l r = named chosenWord k ++ named deadWord d ++ named liveWord l ++ named roundsWord r ++ lineFeed
 
--- "with k the number of groups picked"
+-- 14.2: k says how many groups the pick has.
 abbrev pub size : Survey → Set → ℕ
 size s S = total s (λ g. 1) S
 
@@ -32,7 +32,7 @@ size s S = total s (λ g. 1) S
 abbrev pub numberLine : Set → ℕ → List ℕ
 numberLine P g = cond (P g) (decimal g ++ lineFeed) []
 
--- "Then their numbers, one a line, ascending."
+-- 14.2: the numbers of the picked groups, lowest first
 unfoldable pub numberLines : ℕ → Set → List ℕ
 numberLines zero P = []
 numberLines (suc g) P = numberLines g P ++ numberLine P g
@@ -41,11 +41,11 @@ numberLines (suc g) P = numberLines g P ++ numberLine P g
 abbrev pub pickText : Survey → Set → ℕ → List ℕ
 pickText s P rounds = surveyLine (s .n) (s .e) ++ chosenLine (size s P) (D s P) (L s P) rounds ++ numberLines (s .n) P
 
--- "A refusal prints the single line `refused number place` instead." "'Nothing' prints as 0."
+-- 14.3: the one line of a refusal, with its number and its place as in 10.4
 abbrev pub refusedLine : Refusal → List ℕ
 refusedLine r = named refusedWord (r .number) ++ named space (placeNumber (r .place)) ++ lineFeed
 
--- What is printed of a file that is read: the pick of its survey, or its refusal.
+-- 14.2 and 14.3: what is printed of a file, the pick of its survey where it is admitted, or else its refusal
 pub data Prints (f : List ℕ) : List ℕ → Type 0 where
   picked : {P : Set} {rounds : ℕ} → AdmittedFile f → IsPick (surveyIn f) P → RoundsOf (surveyIn f) rounds P → Prints f (pickText (surveyIn f) P rounds)
   refused : {r : Refusal} → Answers (fileFaults f) (refusals.refused r) → Prints f (refusedLine r)

@@ -1,13 +1,14 @@
--- Text is a list of bytes, in ASCII: the words that document 01 prints, and numbers in decimal.
+-- Specification 14, "Printing": text is a list of bytes, in ASCII. The words that are printed, and numbers in decimal.
 use Prim.Native.Nat.{ℕ, zero, suc, _+_, _/_, _%_}
 use mathlib.Core.Bool.{cond}
 use mathlib.Core.List.{List, [], _∷_, _++_}
 use lib.Dec.{ltb}
 
--- "Every printed line ends in a line feed."
+-- 14.4: each line ends in a line feed.
 abbrev pub lineFeed : List ℕ
 lineFeed = 10 ∷ []
 
+-- what stands between a word and a number
 abbrev pub space : List ℕ
 space = 32 ∷ []
 
@@ -39,7 +40,7 @@ refusedWord = 114 ∷ 101 ∷ 102 ∷ 117 ∷ 115 ∷ 101 ∷ 100 ∷ 32 ∷ []
 abbrev pub digit : ℕ → ℕ
 digit d = 48 + d
 
--- A number in decimal: below 10 its digit, else its tenth in decimal and then its last digit. It is cut short after k tenths.
+-- 14.4, a number in decimal: below 10 its digit, else its tenth in decimal and then its last digit. It is cut short after k tenths.
 unfoldable pub tenths : ℕ → ℕ → List ℕ
 tenths zero x = digit x ∷ []
 tenths (suc k) x = cond (ltb x 10) (digit x ∷ []) (tenths k (x / 10) ++ digit (x % 10) ∷ [])

@@ -1,4 +1,4 @@
-// What the program prints of a survey file: document 01's text, put into a list of bytes that is lent.
+// What the program prints of a survey file (Specification 14), put into a list of bytes that is lent.
 mod lines;
 mod text;
 
@@ -20,7 +20,7 @@ ghost use Rattle.survey.specs.Words.{markedSet};
 ghost use Rattle.printing.specs.Printing.{textLimit, Printed};
 ghost use Rattle.printing.specs.Put.{Put, Puttable, ReadSurvey, PutPick, markedText};
 
-// "k the number of groups picked"
+// How many groups the pick has.
 fn count_marked(n: usize, marks: &[u8]) -> usize
     requires { ⌜ n ≤ length (now marks) ⌝ }
     ensures { λ r. ⌜ r ≡ sum n (λ g. only (markedSet (now (marks .entry)) g) 1) ⌝ }
@@ -63,7 +63,7 @@ fn put_pick(n: usize, e: usize, groups: &[u8], links: &[u8], out: &mut [u8]) -> 
     }
 }
 
-// The text that document 01 prints of this file, put at the front of `out`; how many bytes it has.
+// The text of this file, put at the front of `out`; how many bytes it has.
 pub fn print_pick(file: &[u8], out: &mut [u8]) -> usize
     requires { ⌜ textLimit ≤ length (now out) ⌝ }
     ensures { λ r. ⌜ Printed (now (file .entry)) (now (out .entry)) r (now (out .exit)) ⌝ }

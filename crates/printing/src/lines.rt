@@ -1,4 +1,4 @@
-// The lines of document 01, put into lent bytes from a place on. Each function answers the place after what it put.
+// The lines of Specification 14, put into lent bytes from a place on. Each function answers the place after what it put.
 use crate::text::put_decimal;
 use crate::text::put_named;
 use crate::text::put_text;
@@ -12,7 +12,7 @@ ghost use Rattle.survey.specs.Words.{markedSet};
 ghost use Rattle.printing.specs.Printing.{surveyLine, chosenLine, refusedLine, numberLine, numberLines};
 ghost use Rattle.printing.specs.Put.{Put, PutLine, Numberable};
 
-// "First line: `survey n e`."
+// 14.2, the first line.
 pub fn put_survey_line(n: usize, e: usize, at: usize, out: &mut [u8]) -> usize
     requires { ⌜ at + 49 ≤ length (now out) ⌝ }
     ensures { λ r. ⌜ PutLine 49 (now (out .entry)) at (surveyLine n e) r (now (out .exit)) ⌝ }
@@ -22,7 +22,7 @@ pub fn put_survey_line(n: usize, e: usize, at: usize, out: &mut [u8]) -> usize
     put_text(b"\n", after_e, out)
 }
 
-// "Second: `chosen k dead D live L rounds r`"
+// 14.2, the second line.
 pub fn put_chosen_line(k: usize, d: Dead, l: Live, rounds: u64, at: usize, out: &mut [u8]) -> usize
     requires { ⌜ at + 108 ≤ length (now out) ⌝ }
     ensures { λ r. ⌜ PutLine 108 (now (out .entry)) at (chosenLine k (d .0) (l .0) rounds) r (now (out .exit)) ⌝ }
@@ -34,7 +34,7 @@ pub fn put_chosen_line(k: usize, d: Dead, l: Live, rounds: u64, at: usize, out: 
     put_text(b"\n", after_r, out)
 }
 
-// "A refusal prints the single line `refused number place` instead."
+// 14.3, the line of a refusal.
 pub fn put_refused_line(r: Refusal, at: usize, out: &mut [u8]) -> usize
     requires { ⌜ at + 50 ≤ length (now out) ⌝ }
     ensures { λ x. ⌜ Put (now (out .entry)) at (refusedLine r) x (now (out .exit)) ⌝ }
@@ -57,7 +57,7 @@ fn put_number(g: usize, marks: &[u8], at: usize, out: &mut [u8]) -> usize
     at
 }
 
-// "Then their numbers, one a line, ascending."
+// 14.2: the numbers of the picked groups, lowest first.
 pub fn put_numbers(n: usize, marks: &[u8], at: usize, out: &mut [u8]) -> usize
     requires { ⌜ Numberable n (now marks) at (now out) ⌝ }
     ensures { λ r. ⌜ Put (now (out .entry)) at (numberLines n (markedSet (now (marks .entry)))) r (now (out .exit)) ⌝ }

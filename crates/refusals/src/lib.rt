@@ -38,7 +38,7 @@ pub fn refused_whole(number: u64) -> Refusal
     }
 }
 
-// The place as it is printed: "'Nothing' prints as 0."
+// Specification 10.4: a place as a number, 0 where it is nothing.
 pub fn place_number(p: Place) -> usize
     ensures { λ r. ⌜ r ≡ placeNumber p ⌝ }
 {

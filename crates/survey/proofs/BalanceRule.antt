@@ -1,4 +1,4 @@
--- The balance rule decides demand 2, whoever wrote the amounts: what it accepts is the pick.
+-- The balance rule decides, whoever wrote the amounts: what it accepts is the pick (docs/MATHEMATICS.md, 6).
 use Prim.Native.Nat.{ℕ, _+_, _-_, _*_, _≤_, _<_}
 use native.Mathlib.Nat.{mul-comm, mul-pos, zero-mul}
 use native.Mathlib.Omega.{arith}
@@ -12,14 +12,14 @@ use Rattle.survey.specs.Sound.{Inside}
 use Rattle.survey.proofs.Totals.{total-mul, total-zero, member-le}
 use Rattle.survey.proofs.BalanceLaw.{leaving, leaves-none, balance-law}
 
--- what a set weighs, with D and L of the current set
+-- what a set weighs, by the weights that C gives
 pub weighs-plus : (s : Survey) (C B : Set) → totalPlus s (weights s C) B ≡ D s B * L s C
 weighs-plus s C B = total-mul s (deadOf s) (L s C) B
 
 pub weighs-minus : (s : Survey) (C B : Set) → totalMinus s (weights s C) B ≡ L s B * D s C
 weighs-minus s C B = total-mul s (costOf s) (D s C) B
 
--- "L may be 0; such a candidate is better than every one with L above 0."
+-- Specification 5.2: a candidate with nothing live beats each one with something live.
 pub nothing-live-better : {s : Survey} {A B : Set} → Candidate s A → Candidate s B → L s A ≡ 0 → 0 < L s B → BetterSet s A B
 nothing-live-better {s} {A} {B} a b z p = rw z (omega (arith, zero-mul (D s B), mul-pos p (a .dead)))
 

@@ -19,7 +19,7 @@ use Rattle.survey.proofs.AllSets.{anySet, any-set}
 use Rattle.survey.proofs.SetTests.{eligibleTest, eligible-told}
 use Rattle.survey.proofs.ComputedVerdicts.{RowsTold, noRow, row}
 
--- ---- the largest set of the balance rule
+-- ---- the largest settled set
 
 module _ (s : Survey) (w : Weights) (a : Amounts) where
   -- no amount leaves S by link k

@@ -1,4 +1,4 @@
--- No cycle exactly when there is a ranking, and where there is a rest there is a cycle (design/mathematics.md, 17 to 19).
+-- No cycle exactly when there is a ranking, and where there is a rest there is a cycle (docs/MATHEMATICS.md, 10).
 use Prim.Native.Nat.{ℕ, zero, suc, _<_, _≤_}
 use mathlib.Core.Path.{_≡_, refl}
 use mathlib.Core.Bool.{Bool, true, false}

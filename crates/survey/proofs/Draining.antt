@@ -1,5 +1,5 @@
 -- The set that drains: the least one that holds every group with a balance below 0 and that a group with a link to pay it by joins.
--- What is left outside it is the heaviest set (flow), and the largest set of the balance rule (checker): one notion serves both.
+-- What is left outside it is the heaviest set (flow), and the largest settled set (checker): one notion serves both.
 use Prim.Native.Nat.{ℕ, _+_, _-_, _≤_, _<_}
 use native.Mathlib.Omega.{arith}
 use mathlib.Core.Path.{_≡_, refl, sym, _∙_}
@@ -106,7 +106,7 @@ module _ (s : Survey) (a : Amounts) where
             largest = largest;
           }
 
-    -- Where no balance is above 0 at all, the outside of the draining set is the largest set of the balance rule.
+    -- Where no balance is above 0 at all, the outside of the draining set is the largest settled set.
     pub drained-settled : {T : Set} → Drains s w a T → ((g : ℕ) → g < s .n → credit s w a g ≤ debit s w a g) → LargestSettled s w a (outside T)
     drained-settled {T} d none =
         record {

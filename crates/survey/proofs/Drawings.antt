@@ -1,5 +1,5 @@
--- Document 01, "Drawings from the bench": those marked * "are proved as examples of the definitions, all from a single list with one
--- assertion over the list". And table 1, with an assertion of its own.
+-- Specification 15.2: the cases that are proved of the definitions, by one assertion over their one list; and table 1, by an assertion of its
+-- own.
 use mathlib.Core.Path.{_≡_, refl}
 use mathlib.Core.Bool.{Bool, true, false, not, _&&_, _||_}
 use mathlib.Core.List.{List, [], _∷_, _++_}

@@ -77,7 +77,7 @@ module _ {s : Survey} where
   pub contains-trans : {A B C : Set} → Contains s A B → Contains s B C → Contains s A C
   contains-trans a b = record { has = λ g l m. a .has g l (b .has g l m) }
 
--- "every dead count is 0" exactly when there is no candidate
+-- No group has anything dead (refusal 12) exactly where there is no candidate.
 pub no-dead-no-candidate : {s : Survey} → ((g : ℕ) → g < s .n → deadOf s g ≡ 0) ↔ ((S : Set) → Candidate s S → ⊥)
 no-dead-no-candidate {s} = (
   λ z S c. omega (arith, c .dead, total-zero s (deadOf s) S (λ g l m. z g l)),

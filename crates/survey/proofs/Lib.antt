@@ -1,4 +1,4 @@
--- The laws of the words of document 01, each file leaning on those above it.
+-- The laws of the definitions, each file leaning on those above it. docs/MATHEMATICS.md goes through them.
 -- Sums over places and over sets.
 pub mod SumOrder
 pub mod Sums

@@ -1,4 +1,4 @@
--- Each part of document 01 looks for its faults in the one order, which ascends: so it gives the lowest number.
+-- Each part looks for its faults in the one order, which ascends: so it gives the lowest number.
 use mathlib.Core.Path.{_≡_, refl}
 use mathlib.Core.Bool.{true}
 use mathlib.Core.List.{List, [], _∷_, map}
@@ -24,6 +24,7 @@ pub checker-order : (n e : ℕ) (groups links marks amounts : List ℕ) → InOr
 checker-order n e groups links marks amounts =
     here refl (later (later (later (later (here refl (later (later (later (here refl (later (here refl (later (here refl (later (here refl (later (here refl (later (here refl (later (here refl (later (here refl (later (here refl (later (here refl (later (here refl none)))))))))))))))))))))))))))))
 
--- The table's last column, number by number: 0 nothing, 1 block, 2 group, 3 link. (6 has "nothing" besides, as a row of its own.)
+-- The sort of place of each number, as the table of Specification 11.1 has it: 0 nothing, 1 block, 2 group, 3 link. (6 has a row of place nothing
+-- besides.)
 pub places-as-in-table : map (λ (m : ℕ). sortNumber (placeOf m 0)) lookingOrder ≡ 0 ∷ 0 ∷ 1 ∷ 1 ∷ 0 ∷ 1 ∷ 1 ∷ 2 ∷ 3 ∷ 3 ∷ 0 ∷ 0 ∷ 2 ∷ 3 ∷ 3 ∷ 0 ∷ 2 ∷ 2 ∷ []
 places-as-in-table = refl

@@ -1,4 +1,4 @@
--- Reaching is decided: from p one comes to q through middle groups below m, for m up to n (design/mathematics.md, 19).
+-- Reaching is decided: from p one comes to q through middle groups below m, for m up to n (docs/MATHEMATICS.md, 10).
 use Prim.Native.Nat.{ℕ, zero, suc, _<_}
 use mathlib.Core.Path.{_≡_, refl, _∙_, sym}
 use mathlib.Core.Bool.{Bool, true, false, _&&_, _||_, false≢true}

@@ -46,7 +46,7 @@ module _ (s : Survey) (C : Set) where
     pub weighs-more : (WeighsZero s (weights s C) S → ⊥) → L s S * D s C < D s S * L s C
     weighs-more d = omega (arith, weighs-plus s C S, weighs-minus s C S, weighs-not-below)
 
-    -- "Otherwise": a set that weighs more than 0 has something dead
+    -- in a further round: a set that weighs more than 0 has something dead
     pub more-dead : (WeighsZero s (weights s C) S → ⊥) → 0 < D s S
     more-dead d = at (D s S) (weighs-more d)
       where

@@ -1,4 +1,4 @@
--- What a set says from n on counts for nothing: whatever document 01 says of a set holds of each set with the same groups.
+-- What a set says from n on counts for nothing: whatever the definitions say of a set holds of each set with the same groups.
 use Prim.Native.Nat.{ℕ, zero, suc, _<_}
 use mathlib.Core.Path.{_≡_, refl, sym, _∙_}
 use mathlib.Core.Bool.{Bool, true, false}
@@ -52,7 +52,7 @@ zero-same w e h = omega (arith, total-same e (w .plus), total-same e (w .minus))
 pub better-same : {s : Survey} {A A′ B B′ : Set} → Same s A A′ → Same s B B′ → BetterSet s A B → BetterSet s A′ B′
 better-same {s} d e h = rw (← total-same d (deadOf s), ← total-same d (costOf s), ← total-same e (deadOf s), ← total-same e (costOf s)) h
 
--- ---- the sets of document 01, of a survey whose links end in groups
+-- ---- the sets that are defined, of a survey whose links end in groups
 
 module _ {s : Survey} (i : Inside s) {A B : Set} (e : Same s A B) where
   pub closed-same : Closed s A → Closed s B

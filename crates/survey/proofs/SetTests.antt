@@ -1,4 +1,4 @@
--- A test for each thing that document 01 says of a set: closed, candidate, best, the pick, heaviest, the rounds.
+-- A test for each thing that the definitions say of a set: closed, candidate, best, the pick, heaviest, the rounds.
 -- Those that speak of all sets look through them, and so want links that end in groups.
 use Prim.Native.Nat.{ℕ, zero, suc, _+_, _*_, _<_}
 use mathlib.Core.Path.{_≡_, refl}

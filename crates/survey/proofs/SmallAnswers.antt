@@ -21,7 +21,7 @@ use Rattle.survey.proofs.Small.{look, SmallBy, AllFew, given-small, ref
 abbrev after-length : List ℕ → List Fault
 after-length f = badCheck f ∷ badHeader f ∷ badRange (nIn f) (eIn f) ∷ badBlockCount f ∷ badKind f ∷ badUnused f ∷ surveyFaults (surveyIn f)
 
--- more than any place of document 01
+-- more than any place
 abbrev pub placeRoom : ℕ
 placeRoom = 2 ^ 32
 

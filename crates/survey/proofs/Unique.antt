@@ -1,4 +1,4 @@
--- What document 01 calls "the" pick, heaviest set, largest set and count of rounds is one, as far as the survey's groups go.
+-- There is one pick, one heaviest set, one largest settled set and one count of rounds, as far as the survey's groups go.
 use Prim.Native.Nat.{ℕ, suc}
 use mathlib.Core.Path.{_≡_, refl, ap}
 use Rattle.survey.specs.Survey.{Survey}
@@ -9,7 +9,7 @@ use Rattle.survey.specs.Balance.{Amounts, LargestSettled}
 use Rattle.survey.proofs.SameSets.{same-sym, contains-both, weights-same, zero-same}
 
 module _ {s : Survey} {A B : Set} where
-  -- "It is unique."
+  -- Specification 5.4: no survey has two picks.
   pub pick-one : IsPick s A → IsPick s B → Same s A B
   pick-one a b = contains-both (a .contains B (b .best)) (b .contains A (a .best))
 

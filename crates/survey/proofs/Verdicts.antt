@@ -1,4 +1,5 @@
--- Which verdict is given: there is only one, and in document 01 it is the lowest number whose fault is present.
+-- Which verdict is given: there is only one, and where the order of looking ascends it has the lowest number that there is a fault for
+-- (Specification 10).
 use Prim.Native.Nat.{ℕ, _≤_, _<_}
 use native.Mathlib.Nat.{le-refl}
 use native.Mathlib.Decide.{decLt}
@@ -33,7 +34,7 @@ fine-not-refused p q = let z : _≡_ {A = ℕ} 0 1 = cc in omega arith
 clear-not-given : {f : Fault} {v : Verdict} → Clear f → Given f v → ⊥
 clear-not-given c g = c .none (g .lowestPlace) (g .lowest .below) (g .lowest .fault)
 
--- "none of the faults" and "not refused" are the same
+-- To have none of the faults and not to be refused are the same.
 pub fine-clear : (fs : List Fault) → Answers fs fine → AllClear fs
 unfolding First AllClear
 fine-clear [] a = tt
@@ -48,7 +49,7 @@ unfolding AllClear
 clear-fine [] c = none-left
 clear-fine (f ∷ fs) c = past (c .0) (clear-fine fs (c .1))
 
--- "the lowest place" is one place
+-- There is one lowest place.
 pub lowest-one : {f : Fault} {j k : ℕ} → Lowest f j → Lowest f k → j ≡ k
 lowest-one {f} {j} {k} a b = go (decLt j k) (decLt k j)
   where
@@ -108,7 +109,7 @@ number-from {b} h (here {m = k} {order = order} {f = g} {fs = fs} e i) f m =
     (List·Memᴰ·cases-cons m)
 number-from {b} h (later {m = k} {order = order} i) f m = number-from (second-in (leb b k) (allFrom b order) h) i f m
 
--- "The lowest number whose fault is present is given": where the order ascends, the first fault in it is the lowest.
+-- Specification 10.2: where the order ascends, the first fault in it has the lowest number of those that are there.
 pub lowest-number : {order : List ℕ} {fs : List Fault} {r : Refusal} → ascending order ≡ true → InOrder order fs → Answers fs (refused r) → (f : Fault) → List·Memᴰ f fs → (k : ℕ) → k < f .places → f .at k → r .number ≤ f .number
 unfolding First
 lowest-number h none a f m k l b = absurd (List·Memᴰ·not-nil m)

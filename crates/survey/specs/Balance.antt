@@ -1,4 +1,4 @@
--- Document 01, "The balance rule for claims".
+-- Specification 7, "Balance rule": claims, balances, settled sets, and what is accepted.
 use Prim.Native.Nat.{ℕ, _+_, _-_, _<_}
 use mathlib.Core.Path.{_≡_}
 use lib.Dec.{eqb}
@@ -7,54 +7,57 @@ use Rattle.survey.specs.Sets.{Set, In, Out, Eligible, Contains, sum, onl
 use Rattle.survey.specs.Pick.{Candidate}
 use Rattle.survey.specs.Rounds.{Weights, weights}
 
--- "one amount per link"
+-- 7.1: a claim has an amount for each link.
 abbrev pub Amounts : Type 0
 Amounts = ℕ → ℕ
 
--- "the amounts on all links (g, q)"
+-- 7.2: what is added, the amounts on the links with g as their from
 unfoldable pub gets : Survey → Amounts → ℕ → ℕ
 gets s a g = sum (s .e) (λ k. only (eqb (s .link k .from) g) (a k))
 
--- "the amounts on all links (p, g)"
+-- 7.2: what is taken away, the amounts on the links with g as their to
 unfoldable pub pays : Survey → Amounts → ℕ → ℕ
 pays s a g = sum (s .e) (λ k. only (eqb (s .link k .to) g) (a k))
 
--- "The balance of a group g is its weight, plus the amounts on all links (g, q), minus the amounts on all links (p, g)": credit - debit.
+-- 7.2: the balance of g begins with its weight; then what it gets is added, and what it pays is taken away. What is added, in all:
 abbrev pub credit : Survey → Weights → Amounts → ℕ → ℕ
 credit s w a g = w .plus g + gets s a g
 
+-- 7.2: what is taken away, in all
 abbrev pub debit : Survey → Weights → Amounts → ℕ → ℕ
 debit s w a g = w .minus g + pays s a g
 
--- the two halves of a balance: what it is above 0, and what it is below
+-- 7.2: the two halves of a balance, which is credit less debit: what it is above 0, and what it is below
 abbrev pub excess : Survey → Weights → Amounts → ℕ → ℕ
 excess s w a g = credit s w a g - debit s w a g
 
 abbrev pub lack : Survey → Weights → Amounts → ℕ → ℕ
 lack s w a g = debit s w a g - credit s w a g
 
+-- 7.2: the balance is above 0
 abbrev pub BalanceAbove0 : Survey → Weights → Amounts → ℕ → Type 0
 BalanceAbove0 s w a g = debit s w a g < credit s w a g
 
+-- 7.2: the balance is 0
 abbrev pub BalanceIs0 : Survey → Weights → Amounts → ℕ → Type 0
 BalanceIs0 s w a g = debit s w a g ≡ credit s w a g
 
--- a "closed set in which every balance is 0 and no link (p, q) with p inside and q outside has an amount above 0"
+-- 7.3: a settled set is closed, all balances in it are 0, and each link that goes out of it, from in and to out, has the amount 0.
 pub record Settled (s : Survey) (w : Weights) (a : Amounts) (S : Set) : Type 0 where
   pub eligible : Eligible s S
   pub zero : (g : ℕ) → g < s .n → In S g → BalanceIs0 s w a g
   pub keeps : (k : ℕ) → k < s .e → In S (s .link k .from) → Out S (s .link k .to) → 0 < a k → ⊥
 
--- "the largest" of them
+-- 7.3: the largest settled set contains all others.
 pub record LargestSettled (s : Survey) (w : Weights) (a : Amounts) (S : Set) : Type 0 where
   pub settled : Settled s w a S
   pub largest : (B : Set) → Settled s w a B → Contains s S B
 
--- "The claim is accepted exactly when", with "weights as above with D and L of the claimed set":
+-- 7.4: a claim is accepted if all of this is so of the claimed set S, and only then. The weights are those of S.
 pub record Accepted (s : Survey) (S : Set) (a : Amounts) : Type 0 where
-  -- "the set is closed and its D is above 0"
+  -- it is closed, and something in it is dead
   pub candidate : Candidate s S
-  -- "no balance is above 0"
+  -- every balance is 0 or below
   pub noneAbove : (g : ℕ) → g < s .n → BalanceAbove0 s (weights s S) a g → ⊥
-  -- "the set is the largest closed set in which every balance is 0 and .."
+  -- it is the largest settled set
   pub largest : LargestSettled s (weights s S) a S

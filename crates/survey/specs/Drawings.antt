@@ -1,4 +1,4 @@
--- Document 01, "Drawings from the bench": the cases marked * there, in one list, and the report's table 1 as document 01 corrects it.
+-- Specification 15, "Drawings": the cases of 15.2, in one list, and table 1, the closed sets of F2.
 use Prim.Native.Nat.{ℕ}
 use mathlib.Core.Path.{_≡_}
 use mathlib.Core.Bool.{Bool, true, false, _||_}
@@ -15,13 +15,15 @@ use Rattle.survey.specs.Rounds.{RoundsOf}
 use Rattle.survey.specs.Refusals.{Verdict, fine, refused, Answers}
 use Rattle.survey.specs.Faults.{listFaults, claimFaults, Admitted}
 
--- "Counts are dead:live."
+-- a group by its counts, written dead:live
 abbrev pub counts : ℕ → ℕ → survey.Group
 counts dead live = record { dead = dead; live = live }
 
+-- a link, written (p, q)
 abbrev pub link : ℕ → ℕ → survey.Link
 link from to = record { from = from; to = to }
 
+-- 15.1: the survey of some groups and links, numbered as they stand
 abbrev pub drawn : List survey.Group → List survey.Link → Survey
 drawn groups links =
     record { n = length groups; e = length links; group = λ g. getD groups g (counts 0 0); link = λ k. getD links k (link 0 0) }
@@ -31,10 +33,11 @@ abbrev pub setOf : List ℕ → Set
 setOf [] g = false
 setOf (p ∷ ps) g = eqb p g || setOf ps g
 
+-- the amounts on the links, one after the other
 abbrev pub amountsIn : List ℕ → ℕ → ℕ
 amountsIn a k = getD a k 0
 
--- What a case says of its survey.
+-- 15.2: what a case says of its survey.
 pub data Drawing : Type 0 where
   -- it is admitted
   admits : Survey → Drawing
@@ -47,7 +50,7 @@ pub data Drawing : Type 0 where
   -- the claim of these marks and amounts is answered so
   claim : Survey → List ℕ → List ℕ → Verdict → Drawing
 
--- and what it means
+-- 15.2: what that means in the words of the definitions
 abbrev pub Holds : Drawing → Type 0
 Holds (admits s) = Admitted s
 Holds (picks s groups) = IsPick s (setOf groups)
@@ -55,63 +58,64 @@ Holds (sums s groups dead live) = (D s (setOf groups) ≡ dead) × (L s (setOf g
 Holds (rounds s k groups) = RoundsOf s k (setOf groups)
 Holds (claim s marks amounts v) = Answers (listFaults s ++ claimFaults s marks (amountsIn amounts)) v
 
+-- 15.2: a case comes out accepted
 abbrev pub accepted : Verdict
 accepted = fine
 
+-- 15.2: or refused, by number and place
 abbrev pub refusedAt : ℕ → Place → Verdict
 refusedAt number place = refused (record { number = number; place = place })
 
--- "F2 (figure 2, links rebuilt from table 1): 2:2, 4:3, 1:12, 6:3, 10:3; links (0,2) (1,2) (1,3) (1,4)."
+-- 15.1: F2
 abbrev pub f2 : Survey
 f2 =
     drawn (counts 2 2 ∷ counts 4 3 ∷ counts 1 12 ∷ counts 6 3 ∷ counts 10 3 ∷ [])
     (link 0 2 ∷ link 1 2 ∷ link 1 3 ∷ link 1 4 ∷ [])
 
--- "F7 (figure 7): 2:1, 0:2, 3:0, 3:0; links (0,1) (1,2) (1,3)."
+-- 15.1: F7
 abbrev pub f7 : Survey
 f7 = drawn (counts 2 1 ∷ counts 0 2 ∷ counts 3 0 ∷ counts 3 0 ∷ []) (link 0 1 ∷ link 1 2 ∷ link 1 3 ∷ [])
 
--- "1:1, 1:1, no links"
+-- 15.2: two groups alike
 abbrev pub twoAlike : Survey
 twoAlike = drawn (counts 1 1 ∷ counts 1 1 ∷ []) []
 
--- "3:0, 5:1, no links"
+-- 15.2: a group in which nothing is live, beside one that has something
 abbrev pub nothingLive : Survey
 nothingLive = drawn (counts 3 0 ∷ counts 5 1 ∷ []) []
 
--- "With a third group 0:0"
+-- 15.2: the same with an empty group
 abbrev pub withEmptyGroup : Survey
 withEmptyGroup = drawn (counts 3 0 ∷ counts 5 1 ∷ counts 0 0 ∷ []) []
 
--- "One group 1:0"
+-- 15.2: one group by itself
 abbrev pub oneGroup : Survey
 oneGroup = drawn (counts 1 0 ∷ []) []
 
+-- 15.2, case after case
 abbrev pub drawings : List Drawing
 drawings =
-    -- "Pick {1,4}, 14 and 6."
+    -- F2: its pick, in how many rounds, and three claims
     picks f2 (1 ∷ 4 ∷ [])
     ∷ sums f2 (1 ∷ 4 ∷ []) 14 6
-    -- "chosen 2 dead 14 live 6 rounds 4"
     ∷ rounds f2 4 (1 ∷ 4 ∷ [])
-    -- "F2 with amounts 0, 0, 0, 18: accepted. With 17 last: refused 17 at group 4. With 19: refused 17 at group 1."
     ∷ claim f2 (0 ∷ 1 ∷ 0 ∷ 0 ∷ 1 ∷ []) (0 ∷ 0 ∷ 0 ∷ 18 ∷ []) accepted
     ∷ claim f2 (0 ∷ 1 ∷ 0 ∷ 0 ∷ 1 ∷ []) (0 ∷ 0 ∷ 0 ∷ 17 ∷ []) (refusedAt 17 (Group 4))
     ∷ claim f2 (0 ∷ 1 ∷ 0 ∷ 0 ∷ 1 ∷ []) (0 ∷ 0 ∷ 0 ∷ 19 ∷ []) (refusedAt 17 (Group 1))
-    -- "Pick all, 8 and 3, 1 round. Amounts 2, 9, 9: accepted."
+    -- F7, in the same way, with one claim
     ∷ picks f7 (0 ∷ 1 ∷ 2 ∷ 3 ∷ [])
     ∷ sums f7 (0 ∷ 1 ∷ 2 ∷ 3 ∷ []) 8 3
     ∷ rounds f7 1 (0 ∷ 1 ∷ 2 ∷ 3 ∷ [])
     ∷ claim f7 (1 ∷ 1 ∷ 1 ∷ 1 ∷ []) (2 ∷ 9 ∷ 9 ∷ []) accepted
-    -- "pick both. Claim {0}: refused 18 at group 1. The empty claim: refused 16."
+    -- two alike: the pick has both, so a claim of one is not the largest, and a claim of none has nothing dead
     ∷ picks twoAlike (0 ∷ 1 ∷ [])
     ∷ claim twoAlike (1 ∷ 0 ∷ []) [] (refusedAt 18 (Group 1))
     ∷ claim twoAlike (0 ∷ 0 ∷ []) [] (refusedAt 16 Nothing)
-    -- "pick {0}, 2 rounds. With a third group 0:0: pick {0,2}."
+    -- nothing live is best, and an empty group goes with it
     ∷ picks nothingLive (0 ∷ [])
     ∷ rounds nothingLive 2 (0 ∷ [])
     ∷ picks withEmptyGroup (0 ∷ 2 ∷ [])
-    -- "One group 1:0: picked."
+    -- one group
     ∷ picks oneGroup (0 ∷ [])
     -- and each of these surveys is admitted
     ∷ admits f2
@@ -122,17 +126,17 @@ drawings =
     ∷ admits oneGroup
     ∷ []
 
--- A row of the report's table 1: a closed set, with its D and its L. The report's p1 to p5 are groups 0 to 4.
+-- 15.2: a row of table 1 is a closed set with its D and its L.
 pub record Row : Type 0 where
   pub groups : List ℕ
   pub dead : ℕ
   pub live : ℕ
 
+-- such a row
 abbrev pub row : List ℕ → ℕ → ℕ → Row
 row groups dead live = record { groups = groups; dead = dead; live = live }
 
--- "Where the report's tables differ from its definitions, the definitions decide. Table 1 prints 16/9 for {p2,p4,p5}; the sums give 20/9.
--- It also leaves out the four closed sets that hold p1 and p2 without p3."
+-- 15.2: the 14 closed sets of F2, and no others
 abbrev pub table1 : List Row
 table1 =
     row (0 ∷ 1 ∷ 2 ∷ []) 7 17
@@ -145,14 +149,13 @@ table1 =
     ∷ row (1 ∷ 3 ∷ []) 10 6
     ∷ row (1 ∷ 3 ∷ 4 ∷ []) 20 9
     ∷ row (1 ∷ 4 ∷ []) 14 6
-    -- the four that it leaves out
     ∷ row (0 ∷ 1 ∷ []) 6 5
     ∷ row (0 ∷ 1 ∷ 3 ∷ []) 12 8
     ∷ row (0 ∷ 1 ∷ 4 ∷ []) 16 8
     ∷ row (0 ∷ 1 ∷ 3 ∷ 4 ∷ []) 22 11
     ∷ []
 
--- A row is right: its set is closed and has those sums.
+-- 15.2: a row is right if its set is closed and has those sums.
 pub record RowHolds (s : Survey) (r : Row) : Type 0 where
   pub closed : Closed s (setOf (r .groups))
   pub dead : D s (setOf (r .groups)) ≡ r .dead

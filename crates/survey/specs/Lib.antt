@@ -1,4 +1,4 @@
--- The words of document 01, a file for each part of it that defines something, in its order.
+-- The definitions: a file for each section of docs/SPECIFICATION.md from 2 to 15, in its order. (14, printing, stands in crates/printing/specs.)
 pub mod Limits
 pub mod Survey
 pub mod Sets

@@ -1,38 +1,38 @@
--- The numbers that document 01 fixes, each here and nowhere else.
+-- Specification 2, "Limits": each number here and nowhere else.
 use Prim.Native.Nat.{ℕ, _+_, _*_}
 
--- "n is 1 to 128"
+-- the most groups of a survey; the least is 1
 abbrev pub groupLimit : ℕ
 groupLimit = 128
 
--- "e is 0 to 1,024"
+-- the most links of a survey; there may be none
 abbrev pub linkLimit : ℕ
 linkLimit = 1_024
 
--- "a dead count and a live count, each 0 to 1,000,000"
+-- the most that a count comes to, dead or live
 abbrev pub countLimit : ℕ
 countLimit = 1_000_000
 
--- "one amount per link, from 0 to 20,000,000,000,000,000"
+-- the most that a claim puts on a link
 abbrev pub amountLimit : ℕ
 amountLimit = 20_000_000_000_000_000
 
--- "Blocks of 512 bytes"
+-- the bytes of a block
 abbrev pub blockBytes : ℕ
 blockBytes = 512
 
--- "126 words of content and two of check"
+-- the words of a block that its check covers; two more hold the check
 abbrev pub contentWords : ℕ
 contentWords = 126
 
--- "up to 62 pairs"
+-- the pairs that one block has room for
 abbrev pub blockPairs : ℕ
 blockPairs = 62
 
--- Over the boundary, and in a file, a group, a link and an amount are two words: 8 bytes.
+-- the bytes of a group, a link or an amount, in a lent list and in a file alike
 abbrev pub entryBytes : ℕ
 entryBytes = 8
 
--- What D and L of a set can come to: that many groups of that many objects.
+-- what D or L of a set can come to: so many groups with so many objects each
 abbrev pub sumLimit : ℕ
 sumLimit = groupLimit * countLimit

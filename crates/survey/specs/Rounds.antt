@@ -1,49 +1,50 @@
--- Document 01, "Rounds".
+-- Specification 6, "Rounds": weights, the heaviest set, and how many rounds there are.
 use Prim.Native.Nat.{ℕ, suc, _+_, _*_, _≤_}
 use mathlib.Core.Path.{_≡_}
 use Rattle.survey.specs.Survey.{Survey}
 use Rattle.survey.specs.Sets.{Set, Eligible, Contains, total, allGroups, deadOf, costOf, D, L}
 
--- "weights are signed": a weight is plus - minus, and two such are compared crosswise, never subtracted.
+-- 6.1: a weight may be below 0. So it is kept as plus and minus; two such are compared crosswise, and nothing is subtracted.
 pub record Weights : Type 0 where
   pub plus : ℕ → ℕ
   pub minus : ℕ → ℕ
 
--- "give each group the weight dead·L - live·D, with D and L of the current set"
+-- 6.1: a group's weight is its dead count times L, less its live count times D, where D and L are those of the current set C.
 abbrev pub weights : Survey → Set → Weights
 weights s C = record { plus = λ g. deadOf s g * L s C; minus = λ g. costOf s g * D s C }
 
--- the two halves of a set's total weight
+-- 6.1: the weight of a set is the sum over its groups: what is added,
 abbrev pub totalPlus : Survey → Weights → Set → ℕ
 totalPlus s w S = total s (w .plus) S
 
+-- 6.1: and what is taken off
 abbrev pub totalMinus : Survey → Weights → Set → ℕ
 totalMinus s w S = total s (w .minus) S
 
--- B's total weight is at most S's
+-- 6.2: B has no more weight than S
 abbrev pub WeighsAtMost : Survey → Weights → Set → Set → Type 0
 WeighsAtMost s w B S = totalPlus s w B + totalMinus s w S ≤ totalPlus s w S + totalMinus s w B
 
--- S's total weight is 0
+-- 6.3: S has the weight 0
 abbrev pub WeighsZero : Survey → Weights → Set → Type 0
 WeighsZero s w S = totalPlus s w S ≡ totalMinus s w S
 
--- "Among all closed sets, the empty one included", one "with greatest total weight"
+-- 6.2: a closed set such that no closed set, the empty one counted too, has more weight
 pub record Greatest (s : Survey) (w : Weights) (S : Set) : Type 0 where
   pub eligible : Eligible s S
   pub most : (B : Set) → Eligible s B → WeighsAtMost s w B S
 
--- "take the largest of those with greatest total weight"
+-- 6.2: the heaviest set is one of these that contains every other.
 pub record Heaviest (s : Survey) (w : Weights) (S : Set) : Type 0 where
   pub greatest : Greatest s w S
   pub largest : (B : Set) → Greatest s w B → Contains s S B
 
--- From the current set C, after k rounds, the last one counted, the set that the rounds end with is P.
--- last: "If that total is 0, this set is the pick and the rounds end." more: "Otherwise it becomes the current set."
+-- 6.3 and 6.4: from the current set C on there are k rounds, the last among them, and the set that they end with is P.
+-- last: the heaviest set weighs 0, so it is the end. more: it weighs something else, so it is the current set of the next round.
 pub data Rounds (s : Survey) : Set → ℕ → Set → Type 0 where
   last : {C S : Set} → Heaviest s (weights s C) S → WeighsZero s (weights s C) S → Rounds s C 1 S
   more : {C S P : Set} {k : ℕ} → Heaviest s (weights s C) S → (WeighsZero s (weights s C) S → ⊥) → Rounds s S k P → Rounds s C (suc k) P
 
--- "Begin with the current set equal to all groups."
+-- 6.1: in the first round the current set is that of all groups.
 abbrev pub RoundsOf : Survey → ℕ → Set → Type 0
 RoundsOf s k P = Rounds s allGroups k P

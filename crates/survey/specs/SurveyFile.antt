@@ -1,4 +1,4 @@
--- Document 01, "The survey file".
+-- Specification 9, "Survey file": blocks, their check, the header, kinds and unused words.
 use Prim.Native.Nat.{ℕ, zero, suc, _+_, _-_, _*_, _/_, _%_, _^_, _≤_, _<_}
 use mathlib.Core.Path.{_≡_}
 use mathlib.Core.Bool.{Bool, cond}
@@ -11,78 +11,82 @@ use Rattle.survey.specs.Limits.{groupLimit, linkLimit, blockBytes, conte
 use Rattle.survey.specs.Survey.{Survey}
 use Rattle.survey.specs.Words.{word, surveyAt}
 
--- "Blocks of 512 bytes."
+-- 9.1: a file is made of blocks.
 abbrev pub blockCount : List ℕ → ℕ
 blockCount f = length f / blockBytes
 
--- "Each block is 128 little-endian 32-bit words": word w of block b
+-- 9.1: each block has 128 words. This is word w of block b.
 abbrev pub blockWord : List ℕ → ℕ → ℕ → ℕ
 blockWord f b w = word f (blockBytes * b + 4 * w)
 
--- "The check runs two sums modulo 2^32"
+-- 9.2: the check is two numbers, kept below 2^32 by leaving out higher bits.
 pub record Sums : Type 0 where
   pub a : ℕ
   pub b : ℕ
 
--- "a begins at 1, b at 0"
+-- 9.2: a starts as 1 and b as 0.
 abbrev pub sumsBegin : Sums
 sumsBegin = record { a = 1; b = 0 }
 
--- "for each content word in order, a becomes a plus the word, then b becomes b plus the new a"
+-- 9.2: a content word is added to a, and then a, as it has become, is added to b.
 abbrev pub sumsAfter : Sums → ℕ → Sums
 sumsAfter c x = record { a = (c .a + x) % 2 ^ 32; b = (c .b + (c .a + x) % 2 ^ 32) % 2 ^ 32 }
 
--- the two sums over the first k of some words
+-- 9.2: both, after the first k of some words
 unfoldable pub sums : (ℕ → ℕ) → ℕ → Sums
 sums x zero = sumsBegin
 sums x (suc k) = sumsAfter (sums x k) (x k)
 
--- "Word 126 holds a, word 127 holds b. Both must agree."
+-- 9.2: after the last content word, word 126 has to equal a and word 127 has to equal b.
 pub record CheckAgrees (f : List ℕ) (b : ℕ) : Type 0 where
   pub first : blockWord f b contentWords ≡ sums (blockWord f b) contentWords .a
   pub second : blockWord f b (contentWords + 1) ≡ sums (blockWord f b) contentWords .b
 
--- "Word 0 is the block's number from 0, word 1 its kind."
+-- 9.3: a block says in content word 0 which number it has, and in content word 1 of which kind it is. Its number:
 abbrev pub numberIn : List ℕ → ℕ → ℕ
 numberIn f b = blockWord f b 0
 
+-- 9.3: its kind
 abbrev pub kindIn : List ℕ → ℕ → ℕ
 kindIn f b = blockWord f b 1
 
--- "Block 0, kind 1: word 2 is n, word 3 is e."
+-- 9.4: block 0 has n in word 2,
 abbrev pub nIn : List ℕ → ℕ
 nIn f = blockWord f 0 2
 
+-- 9.4: and e in word 3.
 abbrev pub eIn : List ℕ → ℕ
 eIn f = blockWord f 0 3
 
--- "up to 62 pairs", "Every block but the last of its kind is full", "With e = 0 there is no link block": so many blocks have k pairs
+-- 9.4: so many blocks hold k pairs. A new one is begun only when the one before is full, and without a pair there is none.
 abbrev pub blocksFor : ℕ → ℕ
 blocksFor k = (k + (blockPairs - 1)) / blockPairs
 
--- block 0, "then the group blocks", "then the link blocks"
+-- 9.4: first block 0, then all blocks of groups,
 abbrev pub firstGroupBlock : ℕ
 firstGroupBlock = 1
 
+-- 9.4: then all blocks of links.
 abbrev pub firstLinkBlock : ℕ → ℕ
 firstLinkBlock n = firstGroupBlock + blocksFor n
 
+-- 9.4: the blocks of a survey, all together
 abbrev pub blocksNeeded : ℕ → ℕ → ℕ
 blocksNeeded n e = firstLinkBlock n + blocksFor e
 
--- "The largest file has 1 + 3 + 17 = 21 blocks, 10,752 bytes."
+-- 9.7: no file has more bytes, which are those of 21 blocks.
 abbrev pub fileLimit : ℕ
 fileLimit = blockBytes * blocksNeeded groupLimit linkLimit
 
--- "Block 0, kind 1", "the group blocks, kind 2", "the link blocks, kind 3"
+-- 9.4: the kind that belongs to block b
 abbrev pub kindOf : ℕ → ℕ → ℕ
 kindOf n b = cond (eqb b 0) 1 (cond (leb (firstLinkBlock n) b) 3 2)
 
--- "pairs .. from word 2 on": the words of a block that are in use where k pairs are left for it and those after it
+-- 9.5: pairs stand from word 2 on. So many words of a block are in use where k pairs are left for it and those after it.
 abbrev pub pairWords : ℕ → ℕ
 pairWords k = 2 + 2 * k
 
--- In block b the words from this one on are unused: past n and e in block 0, past the pairs that are left in the others. A block that is not the last of
+-- 9.6: in block b the words from this one on have no use, in block 0 after n and e, elsewhere after the last pair. A block that is not the last of
 -- its kind is full, and more pairs are left for it and those after it than it has room for: there this passes 126, and no word of the block is unused, since
 -- `UnusedAreZero` looks at the words from here up to 126 alone.
 abbrev pub usedWords : ℕ → ℕ → ℕ → ℕ
@@ -90,14 +94,14 @@ usedWords n e b =
     cond (eqb b 0) 4
     (cond (leb (firstLinkBlock n) b) (pairWords (e - blockPairs * (b - firstLinkBlock n))) (pairWords (n - blockPairs * (b - firstGroupBlock))))
 
--- "Unused words are 0."
+-- 9.6: a content word without a use is 0.
 pub record UnusedAreZero (f : List ℕ) (n e b : ℕ) : Type 0 where
   pub at : (w : ℕ) → usedWords n e b ≤ w → w < contentWords → blockWord f b w ≡ 0
 
--- the pairs that stand in the blocks from block first on
+-- 9.5: the pairs of a kind whose first block is this one stand in the blocks from there on.
 abbrev pub inBlocks : ℕ → Stand
 inBlocks first = Blocks first
 
--- the survey that a file holds
+-- 9.4 and 8.5: the survey that a file holds
 abbrev pub surveyIn : List ℕ → Survey
 surveyIn f = surveyAt (nIn f) (eIn f) f (inBlocks firstGroupBlock) f (inBlocks (firstLinkBlock (nIn f)))

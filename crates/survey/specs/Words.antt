@@ -1,5 +1,4 @@
--- Numbers in bytes. Document 01, "What is built": "a group or a link is its pair of words as in the file, an amount is 8 bytes,
--- low byte first, and a mark is one byte; a list's length is its number of whole entries."
+-- Specification 8, "Numbers in bytes": words, entries and where they stand, surveys and claims given as lists.
 use Prim.Native.Nat.{ℕ, _+_, _*_, _/_, _%_, _<_}
 use mathlib.Core.Path.{_≡_}
 use mathlib.Core.Bool.{Bool, cond}
@@ -13,15 +12,15 @@ use Rattle.survey.specs.Survey.{Group, Link, Survey}
 use Rattle.survey.specs.Sets.{Set}
 use Rattle.survey.specs.Balance.{Amounts}
 
--- the little-endian 32-bit word whose four bytes begin at place i
+-- 8.1: the word whose four bytes, the lowest first, begin at place i
 abbrev pub word : List ℕ → ℕ → ℕ
 word l i = getD l i 0 + 256 * getD l (i + 1) 0 + 65_536 * getD l (i + 2) 0 + 16_777_216 * getD l (i + 3) 0
 
--- the number whose 8 bytes, low byte first, begin at place i: two words, the low one first
+-- 8.1: the long word whose eight bytes, the lowest first, begin at place i: its low word and then its high word
 abbrev pub longWord : List ℕ → ℕ → ℕ
 longWord l i = word l i + 4_294_967_296 * word l (i + 4)
 
--- The pairs of a file stand in its blocks, 62 to a block, each block's from word 2 on. Of the blocks from block first on, pair k stands in this one ..
+-- 9.5: the pairs of a file stand in its blocks, 62 to a block, each block's from word 2 on. Of the blocks from block first on, pair k stands in this one ..
 abbrev pub blockOfPair : ℕ → ℕ → ℕ
 blockOfPair first k = first + k / blockPairs
 
@@ -29,23 +28,25 @@ blockOfPair first k = first + k / blockPairs
 abbrev pub wordOfPair : ℕ → ℕ
 wordOfPair k = 2 + 2 * (k % blockPairs)
 
--- The byte that entry k begins at: in a lent list entries stand one after the other, in a file a word is 4 bytes. Word w of block b is defined in `SurveyFile`,
+-- 8.3: the byte that entry k begins at. in a lent list entries stand one after the other, in a file a word is 4 bytes. Word w of block b is defined in `SurveyFile`,
 -- and what a pair's two words are there is said in proofs/Standing.
 abbrev pub standsAt : Stand → ℕ → ℕ
 standsAt Lent k = entryBytes * k
 standsAt (Blocks first) k = blockBytes * blockOfPair first k + 4 * wordOfPair k
 
+-- 8.3: in a lent list, one after the other
 abbrev pub lent : Stand
 lent = Lent
 
--- "a list's length is its number of whole entries"
+-- 8.4: the length of a list is how many entries it has whole.
 abbrev pub entries : List ℕ → ℕ
 entries l = length l / entryBytes
 
--- "two words as in the file, .. dead then live; a link likewise, p then q"
+-- 8.2: a group, its dead count and then its live count
 abbrev pub groupAt : List ℕ → Stand → ℕ → Group
 groupAt l w k = record { dead = word l (standsAt w k); live = word l (standsAt w k + 4) }
 
+-- 8.2: a link, its from and then its to
 abbrev pub linkAt : List ℕ → Stand → ℕ → Link
 linkAt l w k = record { from = word l (standsAt w k); to = word l (standsAt w k + 4) }
 
@@ -53,7 +54,7 @@ linkAt l w k = record { from = word l (standsAt w k); to = word l (standsAt w k 
 abbrev pub upTo {ℓ} : {A : Type ℓ} → ℕ → A → (ℕ → A) → ℕ → A
 upTo n z f k = cond (ltb k n) (f k) z
 
--- the survey that n, e and two lists of entries give; nothing stands past its n groups and e links
+-- 8.5: n, e and two lists give a survey, the first n entries of the one and the first e of the other. What stands after them is no part of it.
 unfoldable pub surveyAt : ℕ → ℕ → List ℕ → Stand → List ℕ → Stand → Survey
 surveyAt n e g wg l wl =
     record {
@@ -63,13 +64,14 @@ surveyAt n e g wg l wl =
       link = upTo e (record { from = 0; to = 0 }) (linkAt l wl);
     }
 
--- "given as lists"
+-- 8.5: a survey given as lent lists
 abbrev pub surveyOf : ℕ → ℕ → List ℕ → List ℕ → Survey
 surveyOf n e g l = surveyAt n e g lent l lent
 
--- "one mark per group (1 in the set, 0 not)"
+-- 8.6: the marked set has those groups whose mark is 1.
 abbrev pub markedSet : List ℕ → Set
 markedSet m g = eqb (getD m g 0) 1
 
+-- 8.6: the amount of link k is entry k of its list.
 abbrev pub amountsOf : List ℕ → Amounts
 amountsOf a k = longWord a (standsAt lent k)

@@ -1,4 +1,4 @@
-// What a refusal says, and the answers of the parts: "Every refusal carries a number and a place: nothing, a block, a group or a link."
+// Refusals, each with its number and its place (Specification 10.1), and the answers of the parts (12.2).
 
 pub enum Place {
     Nothing,

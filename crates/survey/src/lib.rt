@@ -1,3 +1,3 @@
-// The words of document 01 and the small code that all parts share.
+// What the parts answer. The definitions stand in specs/, their laws in proofs/.
 pub mod answers;
 pub mod stands;

@@ -1,4 +1,4 @@
--- Document 01, "Wrong turns seen on the bench": "Averaging the groups' ratios instead of dividing the sums."
+-- Specification 15.4, the third wrong turn: the mean of the groups' own ratios in place of the ratio of the sums.
 use Prim.Native.Nat.{ℕ, _*_, _<_}
 use native.Mathlib.Omega.{arith}
 use mathlib.Core.Path.{_≡_, refl}

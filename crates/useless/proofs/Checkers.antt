@@ -1,4 +1,4 @@
--- Useless checkers. Document 01, "Strength of the promises": "A checker that always says yes, or always no, falls to demand 3."
+-- Specification 15.5, useless checkers: one that accepts everything, and one that refuses everything. Both fail demand 3.
 use Prim.Native.Nat.{ℕ}
 use native.Mathlib.Omega.{arith}
 use mathlib.Core.Path.{_≡_, refl, sym, subst}
@@ -67,14 +67,14 @@ unfolding judgedTest insideTest closedTest eligibleTest lowestBelow verdictOf ve
     somewhere anyLink via hasCycle gets pays sum total allBelow findFrom findSet anySet
 f2-judged markTail amountTail = judged f2 (0 ∷ 1 ∷ 0 ∷ 0 ∷ 1 ∷ markTail) (amountBytes (0 ∷ 0 ∷ 0 ∷ 18 ∷ []) ++ amountTail) fine refl
 
--- "F2 with amounts 0, 0, 0, 18: accepted", in lists that go on in any way: no allowed answer is anything else.
+-- Amounts 0, 0, 0, 18 are accepted, in lists that go on in any way: no allowed answer is anything else.
 pub f2-accepted :
     {groups links markTail amountTail : List ℕ}
     → Lends f2 groups links (0 ∷ 1 ∷ 0 ∷ 0 ∷ 1 ∷ markTail) (amountBytes (0 ∷ 0 ∷ 0 ∷ 18 ∷ []) ++ amountTail) → {r : Judgement}
     → CheckerSays 5 4 groups links (0 ∷ 1 ∷ 0 ∷ 0 ∷ 1 ∷ markTail) (amountBytes (0 ∷ 0 ∷ 0 ∷ 18 ∷ []) ++ amountTail) r → r ≡ Judgement.Accepted
 f2-accepted {groups} {links} {markTail} {amountTail} c {r} x = accepted-only r (judged-so c (f2-judged markTail amountTail) x)
 
--- "A checker that always says .. no": here no refusal is allowed.
+-- One that refuses everything: here no refusal is allowed.
 pub always-no :
     {groups links markTail amountTail : List ℕ}
     → Lends f2 groups links (0 ∷ 1 ∷ 0 ∷ 0 ∷ 1 ∷ markTail) (amountBytes (0 ∷ 0 ∷ 0 ∷ 18 ∷ []) ++ amountTail) → {x : Refusal}
@@ -88,13 +88,13 @@ unfolding judgedTest insideTest closedTest eligibleTest lowestBelow verdictOf ve
     somewhere anyLink via hasCycle gets pays sum total allBelow findFrom findSet anySet
 two-judged markTail amounts = judged twoAlike (1 ∷ 0 ∷ markTail) amounts (refusedAt 18 (Group 1)) refl
 
--- "Claim {0}: refused 18 at group 1": no allowed answer is anything else.
+-- The claim {0} is refused 18 at group 1: no allowed answer is anything else.
 pub two-refused :
     {groups links markTail amounts : List ℕ} → Lends twoAlike groups links (1 ∷ 0 ∷ markTail) amounts → {r : Judgement}
     → CheckerSays 2 0 groups links (1 ∷ 0 ∷ markTail) amounts r → r ≡ Judgement.Refused (record { number = 18; place = Group 1 })
 two-refused {groups} {links} {markTail} {amounts} c {r} x = refused-only r (judged-so c (two-judged markTail amounts) x)
 
--- "A checker that always says yes": here it may not.
+-- One that accepts everything: here it may not.
 pub always-yes :
     {groups links markTail amounts : List ℕ} → Lends twoAlike groups links (1 ∷ 0 ∷ markTail) amounts
     → CheckerSays 2 0 groups links (1 ∷ 0 ∷ markTail) amounts Judgement.Accepted → ⊥

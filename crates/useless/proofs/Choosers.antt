@@ -1,5 +1,5 @@
--- Useless choosers. Document 01, "Strength of the promises": none of them gives an answer that the chooser's promise allows.
--- A call "lends F2" where its lists are long enough and the survey that they give is F2 (Calls); an answer is allowed where the chooser's
+-- Specification 15.5, useless choosers: none of them gives an answer that the chooser's promise allows.
+-- A call lends F2 where its lists are long enough and the survey that they give is F2 (Calls); an answer is allowed where the chooser's
 -- promise holds of it. Of each useless program: what it would answer is not allowed.
 use Prim.Native.Nat.{ℕ}
 use native.Mathlib.Omega.{arith}
@@ -33,7 +33,7 @@ not-chosen e = let z : _≡_ {A = ℕ} 0 1 = cc in omega arith
 -- ---- on every admitted survey
 
 module _ {s : Survey} {groups links marks amounts marks′ amounts′ : List ℕ} (c : Lends s groups links marks amounts) (admitted : Admitted s) where
-  -- "One that refuses everything, .. falls to demand 2, as a survey that 01 admits is owed its own pick."
+  -- One that refuses whatever it gets fails demand 2: an admitted survey has its own pick coming to it.
   pub refuses-admitted : {x : Refusal} → ChooserSays (s .n) (s .e) groups links marks amounts (Choice.Refused x) marks′ amounts′ → ⊥
   refuses-admitted x = not-chosen (owed c admitted x .is)
 
@@ -42,14 +42,14 @@ module _ {s : Survey} {groups links marks amounts marks′ amounts′ : List ℕ
     pub marks-only-pick : {S : Set} → Same s (markedSet marks′) S → (IsPick s S → ⊥) → ⊥
     marks-only-pick e d = d (pick-same (admitted-sound admitted .inside) e (owed c admitted x .chooses .pick))
 
-    -- "One that writes no marks, likewise": where the lent marks are all 0, they may not stay as they were.
+    -- One that writes no mark: where the lent marks are all 0, they may not stay as they were.
     pub leaves-marks : Same s (markedSet marks) noGroup → marks′ ≡ marks → ⊥
     leaves-marks z e = marks-only-pick (subst (λ (m : List ℕ). Same s (markedSet m) noGroup) (sym e) z) (nothing-no-pick (empty-nothing s))
 
 -- ---- on F2
 
 module _ {groups links marks amounts marks′ amounts′ : List ℕ} (c : Lends f2 groups links marks amounts) where
-  -- "One that refuses everything"
+  -- one that refuses whatever it gets
   pub refuses-everything : {x : Refusal} → ChooserSays 5 4 groups links marks amounts (Choice.Refused x) marks′ amounts′ → ⊥
   refuses-everything x = refuses-admitted c f2-admitted x
 
@@ -61,15 +61,15 @@ module _ {groups links marks amounts marks′ amounts′ : List ℕ} (c : Lends 
     pub f2-count : r ≡ Choice.Chosen 4
     f2-count = let o = owed c f2-admitted x in o .is ∙ ap (λ (k : ℕ). Choice.Chosen k) (rounds-one (o .chooses .counted) f2-rounds same-refl .0)
 
-    -- "or all groups, falls there too (F2)": group 0 is not marked.
+    -- One that picks all groups: group 0 is not marked.
     pub all-groups : Same f2 (markedSet marks′) allGroups → ⊥
     all-groups e = not-both (e .at 0 (omega arith)) (f2-marks .at 0 (omega arith))
 
-    -- "One that writes no marks": marks that were not those of {1,4} before the call may not stay as they were.
+    -- One that writes no mark: marks that were not those of {1,4} before the call may not stay as they were.
     pub writes-no-marks : (Same f2 (markedSet marks) (setOf (1 ∷ 4 ∷ [])) → ⊥) → marks′ ≡ marks → ⊥
     writes-no-marks d e = d (subst (λ (m : List ℕ). Same f2 (markedSet m) (setOf (1 ∷ 4 ∷ []))) e f2-marks)
 
-    -- "One that works in the first round and then returns": the set of F2's first round is {0,1,3,4}, and it is not marked, whatever the count.
+    -- One that stops after its first round: the set of F2's first round is {0,1,3,4}, and it is not marked, whatever the count.
     pub first-round-only : {S : Set} → Heaviest f2 (weights f2 allGroups) S → Same f2 (markedSet marks′) S → ⊥
     first-round-only h e = not-both (e .at 0 (omega arith) ∙ heaviest-one h f2-first-round .at 0 (omega arith)) (f2-marks .at 0 (omega arith))
 
@@ -77,7 +77,7 @@ module _ {groups links marks amounts marks′ amounts′ : List ℕ} (c : Lends 
   pub counts-one-round : ChooserSays 5 4 groups links marks amounts (Choice.Chosen 1) marks′ amounts′ → ⊥
   counts-one-round x = omega (arith, same-count-as (f2-count x))
 
-  -- "or invents its round count, falls to the definition of rounds": no count but 4 is allowed.
+  -- One that makes up the count of rounds: no count but 4 is allowed.
   pub invents-count : (k : ℕ) → (k ≡ 4 → ⊥) → ChooserSays 5 4 groups links marks amounts (Choice.Chosen k) marks′ amounts′ → ⊥
   invents-count k d x = d (same-count-as (f2-count x))
 
@@ -85,7 +85,7 @@ module _ {groups links marks amounts marks′ amounts′ : List ℕ} (c : Lends 
 
 module _ {groups links marks amounts marks′ amounts′ : List ℕ} (c : Lends f2 groups links marks amounts)
     {groups₇ links₇ marks₇ amounts₇ marks₇′ amounts₇′ : List ℕ} (c₇ : Lends f7 groups₇ links₇ marks₇ amounts₇) where
-  -- "One that always picks the same set": no set S is what an allowed answer marks in both.
+  -- One that picks the same set every time: no set S is what an allowed answer marks in both.
   pub same-set :
       {r r₇ : Choice} → ChooserSays 5 4 groups links marks amounts r marks′ amounts′ → ChooserSays 4 3 groups₇ links₇ marks₇ amounts₇ r₇ marks₇′ amounts₇′
       → (S : Set) → Same f2 (markedSet marks′) S → Same f7 (markedSet marks₇′) S → ⊥

@@ -1,4 +1,4 @@
--- Document 01, "Wrong turns seen on the bench": "Taking the best singleton with its ancestors and growing from there: stops at {0} on F7."
+-- Specification 15.4, the second wrong turn: beginning with the best single group and all that leads to it, and letting that grow. On F7 it ends at {0}.
 use Prim.Native.Nat.{ℕ, zero, suc, _<_}
 use mathlib.Core.Path.{refl, ap, _∙_}
 use mathlib.Core.Bool.{Bool, not, _&&_, _||_}
@@ -20,7 +20,7 @@ use Rattle.drawn.proofs.Calls.{Lends}
 use Rattle.drawn.proofs.Benched.{f7-admitted}
 use Rattle.useless.proofs.Choosers.{marks-only-pick}
 
--- group g "with its ancestors": the least closed set that has g
+-- group g with its ancestors, which are all that leads to it: the least closed set that has g
 pub record WithAncestors (s : Survey) (g : ℕ) (S : Set) : Type 0 where
   pub eligible : Eligible s S
   pub has : In S g

@@ -1,12 +1,12 @@
--- Useless programs and the bench's wrong turns, each ruled out by the promises.
+-- Specification 15.4 and 15.5: wrong turns and useless programs, each ruled out by the promises.
 -- What is owed to a call, and sets that have nothing.
 pub mod Owed
 pub mod NothingSets
--- "Useless programs are to be tried."
+-- Useless programs.
 pub mod Choosers
 pub mod Readers
 pub mod Checkers
--- "Wrong turns seen on the bench"
+-- Wrong turns.
 pub mod WrongTurns
 pub mod Growing
 pub mod Averages

@@ -1,5 +1,5 @@
--- Sets that have nothing, 0:0. Document 01: "Sets with D = 0 take no part: against one whose L is 0 too, a cross product would call everything
--- equal."
+-- Specification 5.1: sets that have nothing, 0:0, are left out of every comparison. Next to one, each side of a cross product would be 0, and all
+-- would look equally good.
 use Prim.Native.Nat.{ℕ, _*_}
 use native.Mathlib.Nat.{mul-zero, zero-mul}
 use native.Mathlib.Omega.{arith}
@@ -16,7 +16,7 @@ pub record HasNothing (s : Survey) (Z : Set) : Type 0 where
   pub dead : D s Z ≡ 0
   pub live : L s Z ≡ 0
 
--- "everything equal": neither of the two is ever better.
+-- Neither of the two is ever better.
 module _ {s : Survey} {Z : Set} (z : HasNothing s Z) where
   pub products-equal : (B : Set) → L s Z * D s B ≡ L s B * D s Z
   products-equal B =
@@ -28,7 +28,7 @@ module _ {s : Survey} {Z : Set} (z : HasNothing s Z) where
   pub nothing-beats-none : (B : Set) → BetterSet s Z B → ⊥
   nothing-beats-none B h = omega (arith, products-equal B)
 
-  -- So it would stand unbeaten. "Sets with D = 0 take no part": it is no candidate, and not the pick.
+  -- So it would stand unbeaten. But with nothing dead it is no candidate, and so not the pick.
   pub nothing-no-candidate : Candidate s Z → ⊥
   nothing-no-candidate c = omega (arith, c .dead, z .dead)
 

@@ -1,4 +1,5 @@
--- What is owed: "a survey that 01 admits is owed its own pick". With lists long enough, the chooser's promise allows no refusal of it.
+-- What is owed: every admitted survey has its own pick coming to it (Specification 1.4, demand 2). With lists long enough, the chooser's promise allows
+-- no refusal of it.
 use Prim.Native.Nat.{ℕ}
 use native.Mathlib.Omega.{arith}
 use mathlib.Core.Path.{_≡_, refl, sym, subst}

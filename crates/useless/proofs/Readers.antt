@@ -1,4 +1,4 @@
--- Useless readers. Document 01, "Strength of the promises": none of them gives an answer that the reader's promise allows.
+-- Specification 15.5, useless readers: none of them gives an answer that the reader's promise allows.
 use Prim.Native.Nat.{ℕ, _*_, _<_}
 use native.Mathlib.Omega.{arith}
 use mathlib.Core.Path.{_≡_, refl, sym, ap, subst, _∙_}
@@ -20,7 +20,7 @@ use Rattle.blocks.proofs.SameFile.{same-file}
 use Rattle.drawn.proofs.Files.{f2File, f7File, f2-file-admitted}
 
 module _ {f groups links groups′ links′ : List ℕ} where
-  -- "One that refuses everything": an admitted file is not refused, with lists long enough.
+  -- One that refuses whatever it gets: an admitted file is not refused, with lists long enough.
   pub refuses-every-file :
       Clear (tooShort (groupList (entries groups) ∷ linkList (entries links) ∷ [])) → AdmittedFile f → {x : Refusal}
       → ReaderSays f groups links (Reading.Refused x) groups′ links′ → ⊥

@@ -1,5 +1,5 @@
--- Document 01, "Wrong turns seen on the bench": closing forward, an empty or a 0:0 set in play, forgetting the largest set. Growing one group at
--- a time and averages have files of their own.
+-- Specification 15.4, wrong turns: closed the other way round, an empty or a 0:0 set that takes part, the balances and no more. Growing one group
+-- at a time and averages have files of their own.
 use Prim.Native.Nat.{ℕ, _<_}
 use native.Mathlib.Omega.{arith}
 use mathlib.Core.Path.{_≡_, refl}
@@ -29,9 +29,9 @@ use Rattle.drawn.proofs.Benched.{f2-admitted}
 use Rattle.useless.proofs.Choosers.{marks-only-pick}
 use Rattle.useless.proofs.Checkers.{always-yes}
 
--- ---- "Closing along links forward instead of backward: F2 would then take {4} alone, 10:3."
+-- ---- closed the other way round, along links forward: F2 would take group 4 by itself, for its 10:3
 
--- for every link (p, q) with p in the set, q is in it too
+-- the to is wanted wherever the from is in
 pub record ClosedForward (s : Survey) (S : Set) : Type 0 where
   pub on : (k : ℕ) → k < s .e → In S (s .link k .from) → In S (s .link k .to)
 
@@ -75,7 +75,7 @@ pub closes-forward :
     → ChooserSays 5 4 groups links marks amounts r marks′ amounts′ → Same f2 (markedSet marks′) (setOf (4 ∷ [])) → ⊥
 closes-forward c x e = marks-only-pick c f2-admitted x e forward-no-pick
 
--- ---- "Comparing dead·live products with the empty set or a 0:0 set in play."
+-- ---- the empty set or a set of 0:0 takes part where products are compared
 
 -- Such a set would stand unbeaten, as no product is ever below another (NothingSets). But no allowed answer marks one, whatever the survey: so
 -- none is the empty pick.
@@ -88,10 +88,9 @@ module _
   pub empty-pick : Same s (markedSet marks′) noGroup → ⊥
   empty-pick e = takes-nothing (empty-nothing s) e
 
--- ---- "A checker that looks at the balances and forgets that the set may not be the largest."
+-- ---- the balances are checked and no more, so that a set passes which is not the largest
 
--- The balance rule without its last word: the set is closed with D above 0, no balance is above 0, in the set every balance is 0 and no amount
--- leaves it.
+-- The balance rule without its last word: the set is a candidate, each balance is 0 or below, and the set is settled.
 pub record LargestForgotten (s : Survey) (marks amounts : List ℕ) : Type 0 where
   pub candidate : Candidate s (markedSet marks)
   pub noneAbove : (g : ℕ) → g < s .n → BalanceAbove0 s (weights s (markedSet marks)) (amountsOf amounts) g → ⊥

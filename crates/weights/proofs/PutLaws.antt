@@ -63,7 +63,7 @@ module _ {n g d l : ℕ} (groups : List ℕ) {r : Group} {w : Weight} (h : g < n
   unfolding surveyAt
   minus-read = is .minus ∙ ap (λ (x : ℕ). x * d) (i .live ∙ ap (λ (x : survey.Group). cost x) (sym (given-group n 0 groups lent [] lent g h)))
 
--- Put with D and L of a set, these are the weights of document 01, in every survey that has these groups.
+-- Put with D and L of a set, these are the weights of Specification 6.1, in every survey that has these groups.
 module _ {n : ℕ} {groups : List ℕ} (e : ℕ) (links : List ℕ) (S : Set) {plus minus plus′ minus′ : List ℕ} (p : WeightsPut n groups (D (groupsOf n groups) S) (L (groupsOf n groups) S) plus minus plus′ minus′) where
   pub plus-put : (g : ℕ) → g < n → getD plus′ g 0 ≡ weights (surveyOf n e groups links) S .plus g
   unfolding surveyAt total

@@ -17,7 +17,7 @@ pub record MarkedGroup (groups marks : List ℕ) (g : ℕ) : Type 0 where
   pub entry : EntryWithin groups lent g
   pub mark : g < length marks
 
--- n groups of a survey: their entries are there, and "a dead count and a live count, each 0 to 1,000,000"
+-- n groups of a survey: their entries are there, and no count is above its limit (Specification 3.1)
 pub record SomeGroups (n : ℕ) (groups : List ℕ) : Type 0 where
   pub few : n ≤ groupLimit
   pub long : entryBytes * n ≤ length groups

@@ -21,7 +21,7 @@ pub record Puttable (n : ℕ) (groups : List ℕ) (d l : ℕ) (plus minus : List
   pub plus-long : n ≤ length plus
   pub minus-long : n ≤ length minus
 
--- "the weight dead·L - live·D": the two halves
+-- the two halves of a weight (Specification 6.1)
 pub record WeightsPut (n : ℕ) (groups : List ℕ) (d l : ℕ) (plus minus plus′ minus′ : List ℕ) : Type 0 where
   pub pluses : PutFirst n (λ g. deadOf (groupsOf n groups) g * l) plus plus′
   pub minuses : PutFirst n (λ g. costOf (groupsOf n groups) g * d) minus minus′

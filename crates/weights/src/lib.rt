@@ -1,4 +1,4 @@
-// D and L of a marked set, and the weights that they give each group: "dead·L - live·D, with D and L of the current set".
+// D and L of a marked set (Specification 4.4), and the weights that they give each group (6.1).
 use counts::Dead;
 use counts::Live;
 use counts::add_dead;
@@ -67,7 +67,7 @@ pub fn live_sum(n: usize, groups: &[u8], marks: &[u8]) -> Live
     sum
 }
 
-// The weight of each group, its two halves apart: plus[g] is dead·L and minus[g] is cost·D, where d and l are D and L of the current set.
+// The weight of each group, its two halves apart: plus[g] is dead·L and minus[g] is cost·D, where d and l are the sums of the set that gives the weights.
 pub fn put_weights(n: usize, groups: &[u8], d: Dead, l: Live, plus: &mut [u64], minus: &mut [u64])
     requires { ⌜ Puttable n (now groups) (d .0) (l .0) (now plus) (now minus) ⌝ }
     ensures { λ r. ⌜ WeightsPut n (now (groups .entry)) (d .0) (l .0) (now (plus .entry)) (now (minus .entry)) (now (plus .exit)) (now (minus .exit)) ⌝ }

@@ -56,8 +56,8 @@ fn claim_fault(groups: &[Pair], links: &[Pair], marks: &[u8], amounts: &[u64]) -
     ))
 }
 
-/// The balance of each group: its weight, plus the amounts on all links from it, minus the amounts
-/// on all links to it.
+/// The balance of each group: its weight, with the amounts on links from it added and those on
+/// links to it taken away.
 fn balances(weights: &[i128], links: &[Pair], amounts: &[u64]) -> Vec<i128> {
     let mut balances = weights.to_vec();
     for (&(from, to), &amount) in links.iter().zip(amounts) {
@@ -67,9 +67,8 @@ fn balances(weights: &[i128], links: &[Pair], amounts: &[u64]) -> Vec<i128> {
     balances
 }
 
-/// The largest closed set in which every balance is 0 and no link with its start inside and its end
-/// outside has an amount above 0. What can't be in it is taken out, pass after pass over the links,
-/// until a pass takes nothing out.
+/// The largest settled set. What can't be in it is taken out, pass after pass over the links, until
+/// a pass takes nothing out.
 fn largest(balances: &[i128], links: &[Pair], amounts: &[u64]) -> Set {
     let mut set: Set = balances.iter().map(|&balance| balance == 0).collect();
     loop {

@@ -1,4 +1,4 @@
-//! The chooser: the rounds of the document, each by augmenting paths.
+//! The chooser: the rounds of the specification, each by augmenting paths.
 
 use super::answer::{chosen, nothing};
 use super::lists::{too_short, write_amounts};
@@ -39,7 +39,7 @@ pub struct Pick {
     pub set: Set,
     /// An amount for each link, right by the balance rule.
     pub amounts: Vec<u64>,
-    /// The rounds, the last one counted.
+    /// The rounds, the last among them.
     pub rounds: u64,
 }
 

@@ -1,5 +1,5 @@
 //! The pick and the rounds of a small survey by looking at every closed set, straight from the
-//! document. A set is a number here: bit g is group g.
+//! specification. A set is a number here: bit g is group g.
 
 use super::sets::{better, cost, Set};
 use super::Pair;
@@ -35,7 +35,7 @@ fn closed_sets(groups: &[Pair], links: &[Pair]) -> Vec<Closed> {
     (0..1 << n).filter(is_closed).map(with_sums).collect()
 }
 
-/// The candidate that no candidate is better than and that contains every other such candidate.
+/// The best candidate that contains all the best ones.
 fn pick(closed: &[Closed]) -> u32 {
     let candidates = || closed.iter().filter(|(_, (dead, _))| *dead > 0);
     let mut best = candidates().next().expect("some dead count is above 0").1;

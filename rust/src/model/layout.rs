@@ -8,7 +8,7 @@ pub const BLOCK: usize = 512;
 pub const CONTENT: usize = 126;
 /// The pairs that a block of groups or links has room for, from word 2 on.
 pub const PAIRS: usize = 62;
-/// The blocks of the largest file: 1 + 3 + 17.
+/// The blocks of the largest file: the header, 3 of groups and 17 of links.
 pub const MOST_BLOCKS: usize = 1 + blocks_for(MOST_GROUPS) + blocks_for(MOST_LINKS);
 
 /// The word of 32 bits, low byte first, at place `w` of a block.
@@ -17,8 +17,8 @@ pub(super) fn word(block: &[u8], w: usize) -> u32 {
     u32::from_le_bytes([bytes[0], bytes[1], bytes[2], bytes[3]])
 }
 
-/// The two check sums of a block: a begins at 1, b at 0; for each content word a becomes a plus the
-/// word, then b becomes b plus the new a.
+/// The two check sums of a block, from 1 and from 0 on: each content word is added to the first,
+/// and each time the first, as it has become, to the second.
 pub fn check_words(block: &[u8]) -> (u32, u32) {
     let (mut a, mut b) = (1u32, 0u32);
     for w in 0..CONTENT {
@@ -28,8 +28,7 @@ pub fn check_words(block: &[u8]) -> (u32, u32) {
     (a, b)
 }
 
-/// How many blocks so many pairs fill: every block but the last is full, and with no pair there is
-/// none.
+/// How many blocks so many pairs fill: a new one is begun only when the one before is full.
 pub(super) const fn blocks_for(pairs: usize) -> usize {
     (pairs + PAIRS - 1) / PAIRS
 }

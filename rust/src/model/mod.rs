@@ -1,12 +1,12 @@
 //! The library's functions once more, in plain Rust, for tests to compare with and for speed to be
 //! measured against.
 //!
-//! Everything here is written from document 01 and the numbers of the boundary alone. It uses
-//! nothing of this crate's other modules, nothing of the proved library, and other methods where
-//! there is a choice, so that a mistake on one side has no reason to be made on the other: a cycle
-//! is found by a search in depth, not by taking groups away; the heaviest closed set by augmenting
-//! paths, or for small surveys by looking at every set, not by waves; the largest set of the
-//! balance rule by passes over the links, not by a queue.
+//! Everything here is written from `docs/SPECIFICATION.md` alone. It uses nothing of this crate's
+//! other modules, nothing of the proved library, and other methods where there is a choice, so that
+//! a mistake on one side has no reason to be made on the other: a cycle is found by a search in
+//! depth, not by taking groups away; the heaviest closed set by augmenting paths, or for small
+//! surveys by looking at every set, not by waves; the largest settled set by passes over the links,
+//! not by a queue.
 
 mod answer;
 mod checker;

@@ -7,7 +7,7 @@ use std::collections::VecDeque;
 
 /// What [`heaviest`] finds.
 pub struct Heaviest {
-    /// The largest closed set of those with greatest total weight.
+    /// The heaviest closed set, which contains every other of that weight.
     pub set: Set,
     /// That weight.
     pub weight: i128,

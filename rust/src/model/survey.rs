@@ -12,7 +12,7 @@ pub const MOST_LINKS: usize = 1024;
 /// The most dead, and the most live, of a group.
 pub const MOST_COUNT: u32 = 1_000_000;
 
-/// Fault 5: n or e outside its range.
+/// Fault 5: n is 0 or too large, or e is.
 pub(super) fn out_of_range(n: u64, e: u64) -> bool {
     n < 1 || n > MOST_GROUPS as u64 || e > MOST_LINKS as u64
 }

@@ -1,4 +1,4 @@
-//! The claims of document 01.
+//! The claims of the specification.
 
 use super::support::lists::{Checker, Lists};
 use super::support::packed::packed;
@@ -108,7 +108,10 @@ fn a_short_claim_is_filled_up_and_a_long_one_cut() {
     let longer = claim(&[true, false, true, true], &[1, u64::MAX]);
     assert_eq!(check(&survey, &longer), Ok(()));
     let empty = check(&survey, &claim(&[], &[])).unwrap_err();
-    assert_eq!(empty.to_string(), "refused 16: the claimed set's D is 0");
+    assert_eq!(
+        empty.to_string(),
+        "refused 16: nothing in the claimed set is dead"
+    );
 }
 
 #[test]

@@ -1,9 +1,9 @@
-//! The cases of document 01, each put to the library and to the model: here those that a reader can
-//! meet, and in modules of their own those of the checker and the chooser.
+//! The cases of the specification, each put to the library and to the model: here those that a
+//! reader can meet, and in modules of their own those of the checker and the chooser.
 
-#[path = "document/checker.rs"]
+#[path = "specification/checker.rs"]
 mod checker;
-#[path = "document/chooser.rs"]
+#[path = "specification/chooser.rs"]
 mod chooser;
 mod support;
 
@@ -104,7 +104,7 @@ fn counts_that_are_refused() {
     let refusal = refused(&model::build(5, 4, &groups, &F2_LINKS), 8, Place::Group(3));
     assert_eq!(
         refusal.to_string(),
-        "refused 8 at group 3: a dead or live count above 1,000,000"
+        "refused 8 at group 3: a count exceeds 1,000,000"
     );
     refused(&model::build(1, 0, &[(0, 5)], &[]), 12, Place::Nothing);
     assert!(read(&model::build(1, 0, &[(1, 0)], &[])).is_ok());
@@ -139,7 +139,7 @@ fn files_that_are_no_surveys() {
     let refusal = refused(&swapped, 6, Place::Block(1));
     assert_eq!(
         refusal.to_string(),
-        "refused 6 at block 1: a wrong number or kind"
+        "refused 6 at block 1: the number or the kind is not the one that belongs there"
     );
 
     let mut leftover = f2();

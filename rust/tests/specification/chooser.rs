@@ -1,4 +1,4 @@
-//! The picks of document 01.
+//! The picks of the specification.
 
 use super::checker::{claimed, draft, F7_GROUPS, F7_LINKS};
 use super::support::lists::{Chooser, Lists};
@@ -83,6 +83,6 @@ fn surveys_that_are_refused() {
         choose(&draft(&[(0, 5)], &[]).survey())
             .unwrap_err()
             .to_string(),
-        "refused 12: every dead count is 0"
+        "refused 12: no group has anything dead"
     );
 }
