@@ -8,13 +8,13 @@ use native.Mathlib.Omega.{arith}
 use lib.Dec.{ltb}
 use borrow.Author.Tests.{ltb-true, ltb-false}
 use Rattle.survey.specs.declared.answers.Refusal.{Refusal}
+use Rattle.survey.specs.declared.stands.Stand.{Stand}
 use Rattle.survey.specs.Limits.{groupLimit, linkLimit}
 use Rattle.survey.specs.Survey.{Survey, ComesTo, one, more, Cycle}
 use Rattle.survey.specs.Words.{surveyAt}
 use Rattle.survey.specs.Refusals.{Verdict, fine, refused, whole, Clear, Lowest, Given, First, Answers}
 use Rattle.survey.specs.Faults.{badRange, badCount, badEnd, badOrder, anyCycle, noDead, listFaults}
 use Rattle.survey.proofs.Verdicts.{given, past, none-left, early, afterwards, fine-clear}
-use Rattle.entries.specs.Entries.{stand}
 use Rattle.refusals.specs.Refused.{refusalAt, refusalWhole}
 use Rattle.refusals.specs.Searches.{Tells}
 use Rattle.refusals.proofs.Looking.{stop-at, stop-whole, whole-clear}
@@ -46,7 +46,7 @@ comes-by-links {s} {s′} e same (more k l w t) = more k (rw e at l) (rw (same k
 cycle-by-links : {s s′ : Survey} → s .e ≡ s′ .e → ((k : ℕ) → s .link k ≡ s′ .link k) → Cycle s → Cycle s′
 cycle-by-links e same c = (c .0, comes-by-links e same (c .1))
 
--- A row whose place is "nothing" may say its fault in other words.
+-- A row with no place may say its fault in other words.
 reworded : {m : ℕ} {P Q : Type 0} {v : Verdict} → (P → Q) → (Q → P) → Answers (whole m P ∷ []) v → Answers (whole m Q ∷ []) v
 unfolding First
 reworded {m} {P} {Q} {v} f g a = at (a .first)
@@ -57,15 +57,15 @@ reworded {m} {P} {Q} {v} f g a = at (a .first)
 
 -- ---- the chain
 
-module _ (n e : ℕ) (gs : List ℕ) (gb gg : ℕ) (ls : List ℕ) (lb lg : ℕ) where
+module _ (n e : ℕ) (gs : List ℕ) (wg : Stand) (ls : List ℕ) (wl : Stand) where
   s : Survey
-  s = surveyAt n e gs (stand gb gg) ls (stand lb lg)
+  s = surveyAt n e gs wg ls wl
 
   abbrev groups : Survey
-  groups = groupsIn gs (record { n = n; base = gb; gap = gg })
+  groups = groupsIn gs (record { n = n; stand = wg })
 
   abbrev links : Survey
-  links = linksIn ls (record { n = n; e = e; base = lb; gap = lg })
+  links = linksIn ls (record { n = n; e = e; stand = wl })
 
   links-answer : {v : Verdict} → Answers (linkFaults links) v → Answers (linkFaults s) v
   unfolding First s surveyAt linkIn
@@ -88,29 +88,29 @@ module _ (n e : ℕ) (gs : List ℕ) (gb gg : ℕ) (ls : List ℕ) (lb lg : ℕ)
       at (inl x) = given x
       at (inr x) = past (x .0) (second-row (x .1))
 
-  pub refused-range : {r : Refusal} → badRange n e .at 0 → r ≡ refusalWhole 5 → Answers (listFaults (surveyAt n e gs (stand gb gg) ls (stand lb lg))) (refused r)
+  pub refused-range : {r : Refusal} → badRange n e .at 0 → r ≡ refusalWhole 5 → Answers (listFaults (surveyAt n e gs wg ls wl)) (refused r)
   unfolding surveyAt
   refused-range p q = stop-whole p q
 
   module _ (ranged : badRange n e .at 0 → ⊥) where
-    pub refused-count : {r : Refusal} {k : ℕ} → Lowest (badCount groups) k → r ≡ refusalAt 8 k → Answers (listFaults (surveyAt n e gs (stand gb gg) ls (stand lb lg))) (refused r)
+    pub refused-count : {r : Refusal} {k : ℕ} → Lowest (badCount groups) k → r ≡ refusalAt 8 k → Answers (listFaults (surveyAt n e gs wg ls wl)) (refused r)
     unfolding surveyAt groupIn
     refused-count low q = past (whole-clear ranged) (stop-at low q)
 
     module _ (counts : Clear (badCount groups)) where
       -- after 5 and 8
-      after : {v : Verdict} → Answers (badEnd s ∷ badOrder s ∷ anyCycle s ∷ noDead s ∷ []) v → Answers (listFaults (surveyAt n e gs (stand gb gg) ls (stand lb lg))) v
+      after : {v : Verdict} → Answers (badEnd s ∷ badOrder s ∷ anyCycle s ∷ noDead s ∷ []) v → Answers (listFaults (surveyAt n e gs wg ls wl)) v
       unfolding s surveyAt groupIn
       after a = past (whole-clear ranged) (past counts a)
 
-      pub refused-links : {r : Refusal} → Answers (linkFaults links) (refused r) → Answers (listFaults (surveyAt n e gs (stand gb gg) ls (stand lb lg))) (refused r)
+      pub refused-links : {r : Refusal} → Answers (linkFaults links) (refused r) → Answers (listFaults (surveyAt n e gs wg ls wl)) (refused r)
       refused-links a = after (early (linkFaults s) (noDead s ∷ []) (links-answer a))
 
       module _ (by-links : Answers (linkFaults links) fine) where
-        pub refused-dead : {r : Refusal} → noDead groups .at 0 → r ≡ refusalWhole 12 → Answers (listFaults (surveyAt n e gs (stand gb gg) ls (stand lb lg))) (refused r)
+        pub refused-dead : {r : Refusal} → noDead groups .at 0 → r ≡ refusalWhole 12 → Answers (listFaults (surveyAt n e gs wg ls wl)) (refused r)
         unfolding s surveyAt groupIn
         refused-dead p q = after (afterwards (linkFaults s) (fine-clear (linkFaults s) (links-answer by-links)) (stop-whole p q))
 
-        pub admitted : (noDead groups .at 0 → ⊥) → Answers (listFaults (surveyAt n e gs (stand gb gg) ls (stand lb lg))) fine
+        pub admitted : (noDead groups .at 0 → ⊥) → Answers (listFaults (surveyAt n e gs wg ls wl)) fine
         unfolding s surveyAt groupIn
         admitted d = after (afterwards (linkFaults s) (fine-clear (linkFaults s) (links-answer by-links)) (past (whole-clear d) none-left))

@@ -4,10 +4,9 @@ use mathlib.Core.Path.{_≡_}
 use mathlib.Core.List.{List}
 use borrow.Author.Tests.{lt-ltb}
 use Rattle.survey.specs.Words.{groupAt}
-use Rattle.entries.specs.Entries.{stand}
 use Rattle.admit.specs.declared.lists.GroupList.{GroupList}
 use Rattle.admit.specs.Lists.{groupIn}
 
-pub group-in : (l : List ℕ) (list : GroupList) (g : ℕ) → g < list .n → groupIn l list g ≡ groupAt l (stand (list .base) (list .gap)) g
+pub group-in : (l : List ℕ) (list : GroupList) (g : ℕ) → g < list .n → groupIn l list g ≡ groupAt l (list .stand) g
 unfolding groupIn
 group-in l list g h = rw (lt-ltb g (list .n) h)

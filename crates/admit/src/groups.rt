@@ -1,4 +1,4 @@
-// What is looked for at the groups: 8, "a dead or live count above 1,000,000", and 12, "every dead count is 0".
+// What is looked for at the groups: 8, a count above its limit, and 12, that nothing is dead in any of them.
 use crate::lists::GroupList;
 use crate::lists::group_of;
 use refusals::found::Found;
@@ -7,7 +7,7 @@ ghost use Rattle.survey.specs.Faults.{badCount, noDead};
 ghost use Rattle.refusals.specs.Searches.{Finds, Tells};
 ghost use Rattle.admit.specs.Lists.{GroupsFit, groupsIn};
 
-// "a dead count and a live count, each 0 to 1,000,000"
+// The limit of a dead count and of a live count (Specification 2).
 const COUNT: u64 = 1_000_000;
 
 fn above_limit(b: &[u8], list: GroupList, g: usize) -> bool

@@ -13,12 +13,12 @@ use refusals::found::Found;
 use refusals::refused;
 use refusals::refused_whole;
 use survey::answers::Admission;
+use survey::stands::Stand;
 ghost use Rattle.survey.specs.Limits.{groupLimit, linkLimit};
 ghost use Rattle.survey.specs.Words.{surveyAt};
 ghost use Rattle.survey.specs.Refusals.{Answers};
 ghost use Rattle.survey.specs.Faults.{badRange, listFaults};
 ghost use Rattle.survey.specs.Answers.{admissionVerdict};
-ghost use Rattle.entries.specs.Entries.{stand};
 ghost use Rattle.refusals.specs.Searches.{Tells};
 ghost use Rattle.admit.specs.Lists.{EntriesFit};
 
@@ -35,27 +35,24 @@ fn out_of_range(n: usize, e: usize) -> bool
     LINKS < e
 }
 
-// Group g stands at group_base + 8·g + group_gap·(g / 62), and link k likewise. No list is looked at where n or e is out of range.
+// No list is looked at where n or e is out of range.
 pub fn admit(
     n: usize,
     e: usize,
     groups: &[u8],
-    group_base: usize,
-    group_gap: usize,
+    group_stand: Stand,
     links: &[u8],
-    link_base: usize,
-    link_gap: usize,
+    link_stand: Stand,
 ) -> Admission
-    requires { ⌜ EntriesFit n groupLimit (now groups) (stand «group_base» «group_gap») × EntriesFit e linkLimit (now links) (stand «link_base» «link_gap») ⌝ }
-    ensures { λ r. ⌜ Answers (listFaults (surveyAt n e (now (groups .entry)) (stand «group_base» «group_gap») (now (links .entry)) (stand «link_base» «link_gap»))) (admissionVerdict r) ⌝ }
+    requires { ⌜ EntriesFit n groupLimit (now groups) «group_stand» × EntriesFit e linkLimit (now links) «link_stand» ⌝ }
+    ensures { λ r. ⌜ Answers (listFaults (surveyAt n e (now (groups .entry)) «group_stand» (now (links .entry)) «link_stand»)) (admissionVerdict r) ⌝ }
 {
     if out_of_range(n, e) {
         return Admission::Refused(refused_whole(5));
     }
     let group_list = GroupList {
         n,
-        base: group_base,
-        gap: group_gap,
+        stand: group_stand,
     };
     let above = first_above_limit(groups, group_list);
     if let Found::At(g) = above {
@@ -64,8 +61,7 @@ pub fn admit(
     let link_list = LinkList {
         n,
         e,
-        base: link_base,
-        gap: link_gap,
+        stand: link_stand,
     };
     let by_links = admit_links(links, link_list);
     if let Admission::Refused(r) = by_links {

@@ -14,7 +14,8 @@ use Rattle.survey.specs.Balance.{Amounts, gets, pays}
 use Rattle.survey.specs.Words.{surveyAt, surveyOf, lent, markedSet, amountsOf}
 use Rattle.survey.proofs.Sums.{sum-cong}
 use Rattle.survey.proofs.GivenSurvey.{given-link}
-use Rattle.survey.proofs.Admitted.{Sound, dead-small, cost-small}
+use Rattle.survey.specs.Sound.{Sound}
+use Rattle.survey.proofs.Admitted.{dead-small, cost-small}
 use Rattle.survey.proofs.FewLinks.{gets-fit, pays-fit}
 use Rattle.calls.specs.Calls.{AdmittedCall}
 use Rattle.weights.specs.Marked.{groupsOf, MarkedGroups}

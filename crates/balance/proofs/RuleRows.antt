@@ -6,12 +6,12 @@ use mathlib.Core.List.{List}
 use lib.ListN.{length, getD}
 use Rattle.survey.specs.Sets.{outside}
 use Rattle.survey.specs.Rounds.{weights}
-use Rattle.survey.specs.Balance.{LargestSettled}
+use Rattle.survey.specs.Balance.{LargestSettled, lack}
 use Rattle.survey.specs.Words.{surveyAt, surveyOf, markedSet, amountsOf}
 use Rattle.survey.specs.Refusals.{Clear}
 use Rattle.survey.specs.Faults.{balanceAbove, notLargest}
-use Rattle.survey.proofs.BalanceLaw.{lack}
-use Rattle.survey.proofs.Draining.{Drains, drained-settled, in-out, outside-in}
+use Rattle.survey.specs.Draining.{Drains}
+use Rattle.survey.proofs.Draining.{drained-settled, in-out, outside-in}
 use Rattle.survey.proofs.Unique.{largest-settled-one}
 use Rattle.refusals.specs.declared.found.Found.{Found}
 use Rattle.refusals.specs.Searches.{Finds}

@@ -4,6 +4,7 @@ use counts::Dead;
 use entries::amount_at;
 use entries::link_at;
 use refusals::found::Found;
+use survey::stands::Stand;
 use weights::live_sum;
 use weights::put_weights;
 ghost use mathlib.Core.Path.{_≡_};
@@ -28,8 +29,8 @@ fn add_amounts(e: usize, links: &[u8], amounts: &[u8], credit: &mut [u64], debit
 {
     let mut k = 0;
     while k < e {
-        let link = link_at(links, 0, 0, k);
-        let amount = amount_at(amounts, 0, 0, k);
+        let link = link_at(links, Stand::Lent, k);
+        let amount = amount_at(amounts, k);
         add_at(credit, link.from, amount);
         add_at(debit, link.to, amount);
         k += 1;

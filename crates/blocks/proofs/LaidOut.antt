@@ -7,9 +7,9 @@ use mathlib.Core.List.{List}
 use native.Mathlib.Decide.{ℕ-discrete}
 use native.Mathlib.Omega.{arith}
 use lib.ListN.{length}
-use Rattle.survey.specs.Limits.{blockBytes, blockPairs, entryBytes}
-use Rattle.survey.specs.Words.{standsAt}
-use Rattle.survey.specs.SurveyFile.{blockCount, CheckAgrees, numberIn, kindIn, kindOf, nIn, eIn, blocksFor, firstGroupBlock, firstLinkBlock, blocksNeeded, UnusedAreZero, inBlocks}
+use Rattle.survey.specs.Limits.{blockBytes, blockPairs}
+use Rattle.survey.specs.Words.{blockOfPair}
+use Rattle.survey.specs.SurveyFile.{blockCount, CheckAgrees, numberIn, kindIn, kindOf, nIn, eIn, blocksFor, firstGroupBlock, firstLinkBlock, blocksNeeded, UnusedAreZero}
 use Rattle.survey.specs.Refusals.{Clear, AllClear}
 use Rattle.survey.specs.Faults.{badLength, badCheck, badBlockCount, badKind, badUnused, AdmittedFile}
 use Rattle.views.specs.Views.{Within}
@@ -32,17 +32,17 @@ layout-within {n = n} {e = e} l b m = record { fits = omega (arith, l .long, who
     whole : (x y : ℕ) → y < x → blockBytes * y + blockBytes ≤ blockBytes * x
     whole x y h = omega arith
 
--- and so does each of its groups and links
+-- and so does the block of each of its groups and links
 module _ {f : List ℕ} {n e : ℕ} (l : Layout f n e) where
-  pub groups-within : (k : ℕ) → k < n → standsAt (inBlocks firstGroupBlock) k + entryBytes ≤ length f
+  pub groups-within : (k : ℕ) → k < n → Within f (blockOfPair firstGroupBlock k)
   groups-within k h =
       let last : k / blockPairs < blocksFor n = omega arith in
-      omega (arith, l .long)
+      layout-within l (blockOfPair firstGroupBlock k) (omega arith)
 
-  pub links-within : (k : ℕ) → k < e → standsAt (inBlocks (firstLinkBlock n)) k + entryBytes ≤ length f
+  pub links-within : (k : ℕ) → k < e → Within f (blockOfPair (firstLinkBlock n) k)
   links-within k h =
       let last : k / blockPairs < blocksFor e = omega arith in
-      omega (arith, l .long)
+      layout-within l (blockOfPair (firstLinkBlock n) k) (omega arith)
 
 -- that two numbers are equal can be told
 equal : {x y : ℕ} → ((x ≡ y → ⊥) → ⊥) → x ≡ y
@@ -51,6 +51,10 @@ equal {x} {y} d = go (ℕ-discrete x y)
     go : Dec (x ≡ y) → x ≡ y
     go (yes p) = p
     go (no n) = absurd (d n)
+
+-- where no number or kind is wrong, each kind is right
+pub clear-kind : (f : List ℕ) → Clear (badKind f) → (b : ℕ) → b < blockCount f → kindIn f b ≡ kindOf (nIn f) b
+clear-kind f clear b m = equal (λ d. clear .none b m (λ c. d (c .1)))
 
 module _ {f : List ℕ} (length-clear : Clear (badLength f)) (check-clear : Clear (badCheck f)) (count-clear : Clear (badBlockCount f)) (kind-clear : Clear (badKind f)) (unused-clear : Clear (badUnused f)) where
   count : blockCount f ≡ blocksNeeded (nIn f) (eIn f)
@@ -67,7 +71,7 @@ module _ {f : List ℕ} (length-clear : Clear (badLength f)) (check-clear : Clea
         long = whole (λ l. length-clear .none 0 (omega arith) (inr (inl l))) ∙ ap (λ (x : ℕ). blockBytes * x) count;
         checks = λ b m. record { first = equal (λ d. check-clear .none b (below b m) (λ c. d (c .first))); second = equal (λ d. check-clear .none b (below b m) (λ c. d (c .second))) };
         numbers = λ b m. equal (λ d. kind-clear .none b (below b m) (λ c. d (c .0)));
-        kinds = λ b m. equal (λ d. kind-clear .none b (below b m) (λ c. d (c .1)));
+        kinds = λ b m. clear-kind f kind-clear b (below b m);
         zeros = λ b m. record { at = λ w u l. equal (λ d. unused-clear .none b (below b m) (λ c. d (c .at w u l))) };
       }
     where

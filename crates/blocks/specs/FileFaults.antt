@@ -1,4 +1,4 @@
--- Document 01, "Refusal numbers": the rows 2 to 7, which are about the blocks of a file. The survey's own rows come after them.
+-- The rows 2 to 7 of the table (Specification 11), which are about the blocks of a file. The survey's own rows come after them.
 use Prim.Native.Nat.{ℕ}
 use mathlib.Core.List.{List, [], _∷_}
 use Rattle.survey.specs.SurveyFile.{nIn, eIn}

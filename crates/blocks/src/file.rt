@@ -1,4 +1,4 @@
-// Refusals 2 to 7, in their order: "a later fault is only looked for when no earlier one is there". The survey's own faults come after these.
+// Refusals 2 to 7, in the order of their numbers: each is looked for where none before it was found. The survey's own faults come after these.
 use crate::searches::first_bad_check;
 use crate::searches::first_bad_kind;
 use crate::searches::first_bad_unused;

@@ -6,11 +6,12 @@ use layout::e_in;
 use layout::n_in;
 use refusals::found::Found;
 use views::sums::check_agrees;
+ghost use Rattle.survey.specs.Refusals.{Clear};
 ghost use Rattle.survey.specs.Faults.{badCheck, badKind, badUnused};
 ghost use Rattle.refusals.specs.Searches.{Finds};
 ghost use Rattle.views.specs.Views.{Within};
 
-// "a block's check disagrees"
+// 3: a check word that is not the block's sum.
 pub fn first_bad_check(file: &[u8]) -> Found
     ensures { λ r. ⌜ Finds (badCheck (now (file .entry))) r ⌝ }
 {
@@ -25,7 +26,7 @@ pub fn first_bad_check(file: &[u8]) -> Found
     Found::Missing
 }
 
-// "a wrong number or kind"
+// 6: a block that says another number or kind than its place asks for.
 pub fn first_bad_kind(file: &[u8]) -> Found
     requires { ⌜ Within (now file) 0 ⌝ }
     ensures { λ r. ⌜ Finds (badKind (now (file .entry))) r ⌝ }
@@ -42,9 +43,9 @@ pub fn first_bad_kind(file: &[u8]) -> Found
     Found::Missing
 }
 
-// "an unused word isn't 0"
+// 7: a word past those in use that is not 0. Kinds are right by then.
 pub fn first_bad_unused(file: &[u8]) -> Found
-    requires { ⌜ Within (now file) 0 ⌝ }
+    requires { ⌜ Within (now file) 0 × Clear (badKind (now file)) ⌝ }
     ensures { λ r. ⌜ Finds (badUnused (now (file .entry))) r ⌝ }
 {
     let n = n_in(file);

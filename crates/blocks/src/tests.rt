@@ -20,7 +20,7 @@ pub fn blocks_in(file: &[u8]) -> usize
     file.len() / 512
 }
 
-// "file length is 0, no multiple of 512, or above 10,752"
+// 2: no whole blocks, or none, or more than the largest survey has.
 pub fn bad_length(file: &[u8]) -> bool
     ensures { λ r. ⌜ Tells (badLength (now (file .entry)) .at 0) r ⌝ }
 {
@@ -37,7 +37,7 @@ pub fn bad_length(file: &[u8]) -> bool
     false
 }
 
-// "n or e outside its range"
+// 5: the header says more or fewer than a survey can have (Specification 2).
 pub fn bad_range(n: usize, e: usize) -> bool
     ensures { λ r. ⌜ Tells (badRange n e .at 0) r ⌝ }
 {
@@ -53,7 +53,7 @@ pub fn bad_range(n: usize, e: usize) -> bool
     false
 }
 
-// "the number of blocks doesn't fit n and e"
+// 6: as many blocks as n groups and e links have.
 pub fn blocks_fit(file: &[u8]) -> bool
     requires { ⌜ Within (now file) 0 ⌝ }
     ensures { λ r. ⌜ Tells (blockCount (now (file .entry)) ≡ blocksNeeded (nIn (now (file .entry))) (eIn (now (file .entry)))) r ⌝ }
@@ -66,7 +66,7 @@ pub fn blocks_fit(file: &[u8]) -> bool
     false
 }
 
-// "Word 0 is the block's number from 0, word 1 its kind": whether that is so, for this kind.
+// Whether the first two words of block b are its number and this kind.
 pub fn number_and_kind(file: &[u8], b: usize, kind: u32) -> bool
     requires { ⌜ Within (now file) b ⌝ }
     ensures { λ r. ⌜ Tells ((numberIn (now (file .entry)) b ≡ b) × (kindIn (now (file .entry)) b ≡ kind)) r ⌝ }
@@ -88,12 +88,14 @@ pub fn kind_agrees(file: &[u8], n: usize, b: usize) -> bool
     number_and_kind(file, b, kind_of(n, b))
 }
 
-// "Unused words are 0."
+// Whether the unused words of block b are 0. Its kind says which these are, and is known to be the right one: faults are looked for in the order of their
+// numbers, and a wrong kind is 6.
 pub fn unused_are_zero(file: &[u8], n: usize, e: usize, b: usize) -> bool
-    requires { ⌜ Within (now file) b × Countable n e b ⌝ }
+    requires { ⌜ Within (now file) b × Countable n e b × (kindIn (now file) b ≡ kindOf n b) ⌝ }
     ensures { λ r. ⌜ Tells (UnusedAreZero (now (file .entry)) n e b) r ⌝ }
 {
-    let mut w = used_words(n, e, b);
+    let kind = block_word(file, b, 1);
+    let mut w = used_words(kind, n, e, b);
     while w < 126 {
         if block_word(file, b, w) != 0 {
             return false;

@@ -6,9 +6,10 @@ use Rattle.survey.specs.declared.answers.Choice.{Choice}
 use Rattle.survey.specs.declared.answers.Judgement.{Judgement}
 use Rattle.survey.specs.Answers.{placeNumber}
 
--- a number that fits its byte, and a place that leaves room
+-- a number that fits its byte and is not 0, which is a success's, and a place that leaves room
 pub record SmallRefusal (r : Refusal) : Type 0 where
   pub number : r .number < 256
+  pub above : 0 < r .number
   pub place : placeNumber (r .place) < 2 ^ 40
 
 -- n fits between the low 16 bits and e, and e above it

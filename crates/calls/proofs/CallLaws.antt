@@ -14,25 +14,19 @@ use Rattle.survey.specs.Faults.{OneShort, callLists, listFaults, chooserFaults,
 use Rattle.survey.specs.Answers.{admissionVerdict}
 use Rattle.survey.proofs.Verdicts.{past, fine-clear, answers-one}
 use Rattle.survey.proofs.GivenSurvey.{given-n, given-e}
-use Rattle.survey.proofs.Admitted.{Sound, admitted-sound}
+use Rattle.survey.specs.Sound.{Sound}
+use Rattle.survey.proofs.Admitted.{admitted-sound}
 use Rattle.refusals.specs.Refused.{refusalWhole}
 use Rattle.admit.specs.Lists.{EntriesFit}
 use Rattle.refusals.proofs.Looking.{stop-whole, whole-clear}
-use Rattle.calls.specs.Calls.{AdmittedCall}
+use Rattle.calls.specs.Calls.{LongEnough, AdmittedCall}
 
 -- a list with as many entries as a survey can have has room for those that it has
 pub entries-fit : (k limit : ℕ) (l : List ℕ) → limit ≤ entries l → EntriesFit k limit l lent
 entries-fit k limit l h = record { fit = λ few j b. omega arith }
 
 module _ (groups links marks amounts : List ℕ) where
-  -- no list is too short
-  pub record LongEnough : Type 0 where
-    pub groups-have : groupLimit ≤ entries groups
-    pub links-have : linkLimit ≤ entries links
-    pub marks-have : groupLimit ≤ length marks
-    pub amounts-have : linkLimit ≤ entries amounts
-
-  pub none-short : (OneShort (callLists groups links marks amounts) → ⊥) → LongEnough
+  pub none-short : (OneShort (callLists groups links marks amounts) → ⊥) → LongEnough groups links marks amounts
   unfolding OneShort
   none-short d =
       record {
@@ -45,7 +39,7 @@ module _ (groups links marks amounts : List ℕ) where
       at : {x y : ℕ} → (x < y → ⊥) → y ≤ x
       at n = omega arith
 
-  pub long-enough : LongEnough → OneShort (callLists groups links marks amounts) → ⊥
+  pub long-enough : LongEnough groups links marks amounts → OneShort (callLists groups links marks amounts) → ⊥
   unfolding OneShort
   long-enough w = ⊎-elim (λ h. omega (arith, w .groups-have)) (⊎-elim (λ h. omega (arith, w .links-have)) (⊎-elim (λ h. omega (arith, w .marks-have)) (⊎-elim (λ h. omega (arith, w .amounts-have)) (λ z. z))))
 
@@ -57,7 +51,7 @@ module _ (groups links marks amounts : List ℕ) where
     call-answered d a = past (whole-clear d) a
 
     -- what is clear of a call that is not refused
-    pub call-clear : Answers (chooserFaults n e groups links marks amounts) fine → LongEnough × Admitted (surveyOf n e groups links)
+    pub call-clear : Answers (chooserFaults n e groups links marks amounts) fine → LongEnough groups links marks amounts × Admitted (surveyOf n e groups links)
     unfolding AllClear
     call-clear a =
         let c : AllClear (chooserFaults n e groups links marks amounts) = fine-clear (chooserFaults n e groups links marks amounts) a in
@@ -76,7 +70,7 @@ module _ (groups links marks amounts : List ℕ) where
           sound = sound;
         }
       where
-        long : LongEnough
+        long : LongEnough groups links marks amounts
         long = call-clear a .0
 
         sound : Sound (surveyOf n e groups links)

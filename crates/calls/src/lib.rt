@@ -4,12 +4,13 @@ use admit::admit;
 use entries::whole_entries;
 use refusals::refused_whole;
 use survey::answers::Admission;
+use survey::stands::Stand;
 ghost use Rattle.survey.specs.Refusals.{Answers};
 ghost use Rattle.survey.specs.Faults.{OneShort, callLists, chooserFaults};
 ghost use Rattle.survey.specs.Answers.{admissionVerdict};
 ghost use Rattle.refusals.specs.Searches.{Tells};
 
-// "a lent list is shorter than 128 (groups) or 1,024 (links)"
+// How many entries a lent list has to have room for: as many as a survey can have (Specification 2).
 const GROUPS: usize = 128;
 
 const LINKS: usize = 1_024;
@@ -33,7 +34,7 @@ fn list_short(groups: &[u8], links: &[u8], marks: &[u8], amounts: &[u8]) -> bool
     false
 }
 
-// 1, 5 and 8 to 12. In a lent list entry k stands at 8·k: base 0 and no gap.
+// 1, 5 and 8 to 12.
 pub fn admit_call(
     n: usize,
     e: usize,
@@ -47,5 +48,5 @@ pub fn admit_call(
     if list_short(groups, links, marks, amounts) {
         return Admission::Refused(refused_whole(1));
     }
-    admit(n, e, groups, 0, 0, links, 0, 0)
+    admit(n, e, groups, Stand::Lent, links, Stand::Lent)
 }

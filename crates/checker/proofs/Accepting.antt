@@ -1,5 +1,5 @@
--- What the checker's promise comes to (Specification 1.4, demand 3): what it accepts is the pick, it accepts exactly what the balance rule accepts,
--- it has one answer to each call, and refusal 18 always has its place.
+-- What the checker's promise comes to: what it accepts is the pick, it accepts exactly what the balance rule accepts, and refusal 18 always has
+-- its place.
 use Prim.Native.Nat.{ℕ, _≤_, _<_}
 use native.Mathlib.Decide.{ℕ-discrete}
 use native.Mathlib.Omega.{arith}
@@ -19,17 +19,17 @@ use Rattle.survey.specs.Words.{surveyAt, surveyOf, markedSet, amountsOf}
 use Rattle.survey.specs.Refusals.{Verdict, refused, Fault, Clear, Given, AllClear, Answers}
 use Rattle.survey.specs.Faults.{badMark, badAmount, notClosed, nothingDead, balanceAbove, notLargest, listFaults, claimFaults, chooserFaults, checkerFaults, Admitted}
 use Rattle.survey.specs.Answers.{judgementVerdict}
+use Rattle.survey.specs.Promises.{CheckerSays}
 use Rattle.survey.proofs.Verdicts.{past, none-left, clear-fine, fine-clear, afterwards}
 use Rattle.survey.proofs.Small.{look, look-on}
-use Rattle.survey.proofs.Reaching.{Inside}
+use Rattle.survey.specs.Sound.{Inside}
 use Rattle.survey.proofs.Totals.{by-test}
 use Rattle.survey.proofs.BalanceRule.{claimed-within, accepted-pick}
 use Rattle.survey.proofs.Claims.{ClaimClear, clear-accepted, accepted-clear}
-use Rattle.refusals.specs.Refused.{refusalAt}
 use Rattle.refusals.proofs.Looking.{whole-clear}
 use Rattle.calls.specs.Calls.{AdmittedCall}
-use Rattle.balance.proofs.JudgementOne.{judgement-one}
-use Rattle.calls.proofs.CallLaws.{LongEnough, long-enough, call-clear, admitted-call}
+use Rattle.calls.proofs.CallLaws.{long-enough, call-clear, admitted-call}
+use Rattle.checker.specs.Accepting.{Acceptable, before18, Refused18}
 
 -- ---- faults that stand one after the other
 
@@ -47,35 +47,15 @@ on-past (f ∷ fs) gs c a = on-past fs gs (c .1) (look-on f (fs ++ gs) (c .0) a)
 -- ---- the answer
 
 module _ (n e : ℕ) (groups links marks amounts : List ℕ) where
-  -- What the checker promises of its answer to a call.
-  abbrev pub Checks : Judgement → Type 0
-  Checks r = Answers (checkerFaults n e groups links marks amounts) (judgementVerdict r)
-
-  -- Two answers to a call that the promise allows are equal.
-  pub check-one : (r r′ : Judgement) → Checks r → Checks r′ → r ≡ r′
-  check-one r r′ a b = judgement-one (checkerFaults n e groups links marks amounts) r r′ a b
-
-  -- What is asked of a claim that is to be accepted, refusals and balance rule together.
-  pub record Acceptable : Type 0 where
-    -- no list is too short (refusal 1)
-    pub long : LongEnough groups links marks amounts
-    -- Specification 11.3: the survey is admitted
-    pub admitted : Admitted (surveyOf n e groups links)
-    -- Specification 7.1: each mark is 0 or 1, and each amount within its limit
-    pub marks-good : (g : ℕ) → g < n → (getD marks g 0 ≡ 0) ⊎ (getD marks g 0 ≡ 1)
-    pub amounts-good : (k : ℕ) → k < e → amountsOf amounts k ≤ amountLimit
-    -- Specification 7.4: the balance rule
-    pub rule : Accepted (surveyOf n e groups links) (markedSet marks) (amountsOf amounts)
-
-  claim-clear : Checks Judgement.Accepted → AllClear (chooserFaults n e groups links marks amounts) × AllClear (claimFaults (surveyOf n e groups links) marks (amountsOf amounts))
+  claim-clear : CheckerSays n e groups links marks amounts Judgement.Accepted → AllClear (chooserFaults n e groups links marks amounts) × AllClear (claimFaults (surveyOf n e groups links) marks (amountsOf amounts))
   claim-clear a =
       clear-parts (chooserFaults n e groups links marks amounts) (claimFaults (surveyOf n e groups links) marks (amountsOf amounts))
-      (fine-clear (checkerFaults n e groups links marks amounts) a)
+      (fine-clear (checkerFaults n e groups links marks amounts) (a .verdict))
 
-  call-of : Checks Judgement.Accepted → AdmittedCall n e groups links marks amounts
+  call-of : CheckerSays n e groups links marks amounts Judgement.Accepted → AdmittedCall n e groups links marks amounts
   call-of a = admitted-call groups links marks amounts n e (clear-fine (chooserFaults n e groups links marks amounts) (claim-clear a .0))
 
-  rule-of : Checks Judgement.Accepted → Accepted (surveyOf n e groups links) (markedSet marks) (amountsOf amounts)
+  rule-of : CheckerSays n e groups links marks amounts Judgement.Accepted → Accepted (surveyOf n e groups links) (markedSet marks) (amountsOf amounts)
   unfolding AllClear
   rule-of a =
       let c = claim-clear a .1 in
@@ -83,11 +63,11 @@ module _ (n e : ℕ) (groups links marks amounts : List ℕ) where
       (record { closed = c .1 .1 .0; dead = c .1 .1 .1 .0; balances = c .1 .1 .1 .1 .0; largest = c .1 .1 .1 .1 .1 .0 })
 
   -- What the checker accepts is the pick.
-  pub accepted-is-pick : Checks Judgement.Accepted → IsPick (surveyOf n e groups links) (markedSet marks)
+  pub accepted-is-pick : CheckerSays n e groups links marks amounts Judgement.Accepted → IsPick (surveyOf n e groups links) (markedSet marks)
   accepted-is-pick a = accepted-pick (call-of a .sound .inside) (rule-of a)
 
   -- The checker accepts exactly what is acceptable.
-  pub accepted-acceptable : Checks Judgement.Accepted → Acceptable
+  pub accepted-acceptable : CheckerSays n e groups links marks amounts Judgement.Accepted → Acceptable n e groups links marks amounts
   unfolding AllClear surveyAt
   accepted-acceptable a =
       let c = claim-clear a .1 in
@@ -115,51 +95,31 @@ module _ (n e : ℕ) (groups links marks amounts : List ℕ) where
       within : {x : ℕ} → (amountLimit < x → ⊥) → x ≤ amountLimit
       within d = omega arith
 
-  pub acceptable-accepted : Acceptable → Checks Judgement.Accepted
+  pub acceptable-accepted : Acceptable n e groups links marks amounts → CheckerSays n e groups links marks amounts Judgement.Accepted
   unfolding AllClear surveyAt
   acceptable-accepted x =
-      past (whole-clear (long-enough groups links marks amounts (x .long)))
-      (afterwards (listFaults (surveyOf n e groups links)) (x .admitted .clear)
-      (past (record { none = λ g l d. d (x .marks-good g l) })
-      (past (record { none = λ k l h. omega (arith, x .amounts-good k l) })
-      (past (claim .closed) (past (claim .dead) (past (claim .balances) (past (claim .largest) none-left)))))))
+      record {
+        verdict =
+            past (whole-clear (long-enough groups links marks amounts (x .long)))
+            (afterwards (listFaults (surveyOf n e groups links)) (x .admitted .clear)
+            (past (record { none = λ g l d. d (x .marks-good g l) })
+            (past (record { none = λ k l h. omega (arith, x .amounts-good k l) })
+            (past (claim .closed) (past (claim .dead) (past (claim .balances) (past (claim .largest) none-left)))))));
+      }
     where
       claim : ClaimClear (surveyOf n e groups links) (markedSet marks) (amountsOf amounts)
       claim = accepted-clear (surveyOf n e groups links) (markedSet marks) (amountsOf amounts) (x .rule)
 
-  pub accepted-iff : (Checks Judgement.Accepted → Acceptable) × (Acceptable → Checks Judgement.Accepted)
+  pub accepted-iff : (CheckerSays n e groups links marks amounts Judgement.Accepted → Acceptable n e groups links marks amounts) × (Acceptable n e groups links marks amounts → CheckerSays n e groups links marks amounts Judgement.Accepted)
   accepted-iff = (accepted-acceptable, acceptable-accepted)
 
   -- ---- refusal 18
 
-  -- 1, 5 and 8 to 17
-  abbrev pub before18 : List Fault
-  before18 =
-      chooserFaults n e groups links marks amounts
-      ++ (badMark (surveyOf n e groups links) marks
-      ∷ badAmount (surveyOf n e groups links) (amountsOf amounts)
-      ∷ notClosed (surveyOf n e groups links) (markedSet marks)
-      ∷ nothingDead (surveyOf n e groups links) (markedSet marks)
-      ∷ balanceAbove (surveyOf n e groups links) (markedSet marks) (amountsOf amounts)
-      ∷ [])
-
-  -- A refusal 18: its group is the lowest that the largest settled set has and the claimed one leaves out, and the claimed set lies in the largest.
-  pub record Refused18 (r : Judgement) : Type 0 where
-    pub group : ℕ
-    pub is : r ≡ Judgement.Refused (refusalAt 18 group)
-    pub largestSet : Set
-    pub largest : LargestSettled (surveyOf n e groups links) (weights (surveyOf n e groups links) (markedSet marks)) (amountsOf amounts) largestSet
-    pub contains : Contains (surveyOf n e groups links) largestSet (markedSet marks)
-    pub below : group < n
-    pub inside : In largestSet group
-    pub out : Out (markedSet marks) group
-    pub first : (j : ℕ) → j < group → In largestSet j → Out (markedSet marks) j → ⊥
-
   -- A claim that passes every row up to 17 and that the rule does not accept is refused 18, and the group is there to be named.
-  pub refusal-18-has-its-place : (r : Judgement) → Checks r → AllClear before18 → (Accepted (surveyOf n e groups links) (markedSet marks) (amountsOf amounts) → ⊥) → Refused18 r
+  pub refusal-18-has-its-place : (r : Judgement) → CheckerSays n e groups links marks amounts r → AllClear (before18 n e groups links marks amounts) → (Accepted (surveyOf n e groups links) (markedSet marks) (amountsOf amounts) → ⊥) → Refused18 n e groups links marks amounts r
   unfolding AllClear surveyAt
   refusal-18-has-its-place r a c not =
-      at (look (notLargest s S x) [] (on-past before18 (notLargest s S x ∷ []) c a))
+      at (look (notLargest s S x) [] (on-past (before18 n e groups links marks amounts) (notLargest s S x ∷ []) c (a .verdict)))
     where
       s : Survey
       s = surveyOf n e groups links
@@ -187,7 +147,7 @@ module _ (n e : ℕ) (groups links marks amounts : List ℕ) where
       answer (Judgement.Refused y′) q = cc
       answer Judgement.Accepted q = let z : _≡_ {A = ℕ} 0 1 = cc in absurd (omega arith)
 
-      at : Given (notLargest s S x) (judgementVerdict r) ⊎ (Clear (notLargest s S x) × Answers [] (judgementVerdict r)) → Refused18 r
+      at : Given (notLargest s S x) (judgementVerdict r) ⊎ (Clear (notLargest s S x) × Answers [] (judgementVerdict r)) → Refused18 n e groups links marks amounts r
       at (inl g) =
           let f = g .lowest .fault in
           record {

@@ -3,6 +3,7 @@
 use entries::amount_at;
 use entries::link_at;
 use refusals::found::Found;
+use survey::stands::Stand;
 ghost use Prim.Native.Nat.{_*_, _≤_};
 ghost use lib.ListN.{length};
 ghost use Rattle.survey.specs.Limits.{entryBytes};
@@ -34,7 +35,7 @@ pub fn first_above_limit(e: usize, amounts: &[u8]) -> Found
 {
     let mut k = 0;
     while k < e {
-        let amount = amount_at(amounts, 0, 0, k);
+        let amount = amount_at(amounts, k);
         if AMOUNT < amount {
             return Found::At(k);
         }
@@ -48,7 +49,7 @@ fn is_open(links: &[u8], marks: &[u8], k: usize) -> bool
     requires { ⌜ LinkMarked (now links) (now marks) k ⌝ }
     ensures { λ r. ⌜ Tells (Open (now (links .entry)) (now (marks .entry)) k) r ⌝ }
 {
-    let link = link_at(links, 0, 0, k);
+    let link = link_at(links, Stand::Lent, k);
     let from = link.from;
     let to = link.to;
     if marks[from] == 1 {

@@ -14,8 +14,9 @@ use survey::answers::Judgement;
 use weights::dead_sum;
 ghost use Rattle.survey.specs.Words.{surveyOf, amountsOf};
 ghost use Rattle.survey.specs.Refusals.{Answers};
-ghost use Rattle.survey.specs.Faults.{claimFaults, checkerFaults};
+ghost use Rattle.survey.specs.Faults.{claimFaults};
 ghost use Rattle.survey.specs.Answers.{judgementVerdict};
+ghost use Rattle.survey.specs.Promises.{CheckerSays};
 ghost use Rattle.calls.specs.Calls.{AdmittedCall};
 
 // 13 to 18, of a claim on an admitted survey.
@@ -57,7 +58,7 @@ pub fn check(
     marks: &[u8],
     amounts: &[u8],
 ) -> Judgement
-    ensures { λ r. ⌜ Answers (checkerFaults n e (now (groups .entry)) (now (links .entry)) (now (marks .entry)) (now (amounts .entry))) (judgementVerdict r) ⌝ }
+    ensures { λ r. ⌜ CheckerSays n e (now (groups .entry)) (now (links .entry)) (now (marks .entry)) (now (amounts .entry)) r ⌝ }
 {
     let call = admit_call(n, e, groups, links, marks, amounts);
     if let Admission::Refused(r) = call {

@@ -10,8 +10,8 @@ use Rattle.survey.specs.Sets.{In, Same, allGroups, outside}
 use Rattle.survey.specs.Rounds.{weights, WeighsZero, Heaviest, RoundsOf}
 use Rattle.survey.specs.Balance.{credit, debit, Accepted}
 use Rattle.survey.specs.Words.{surveyOf, markedSet, amountsOf}
-use Rattle.survey.proofs.Admitted.{Sound}
-use Rattle.survey.proofs.Draining.{Drains}
+use Rattle.survey.specs.Sound.{Sound}
+use Rattle.survey.specs.Draining.{Drains}
 
 -- some group has a number above 0
 pub record AnyAbove (n : ℕ) (l : List ℕ) : Type 0 where

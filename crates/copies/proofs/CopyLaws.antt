@@ -10,12 +10,15 @@ use native.Mathlib.Nat.{add-zero, add-suc, suc-add}
 use native.Mathlib.Numerals.{add-one, add-two, add-three, add-four}
 use lib.ListN.{length, getD, take, drop, length-append, List·getD-append}
 use lib.Seq.{sets, sets-eq, length-take-le, getD-append-add}
+use Rattle.survey.specs.declared.stands.Stand.{Stand}
 use Rattle.survey.specs.Limits.{entryBytes}
-use Rattle.survey.specs.Words.{longWord, Stand, standsAt}
+use Rattle.survey.specs.Words.{longWord, standsAt}
 use Rattle.survey.specs.Promises.{Filled}
 use Rattle.words.specs.Words.{bytesOf, withLongWord, Bytes}
 use Rattle.words.proofs.WordLaws.{bytesAt, number, length-with-long-word, with-long-word-outside}
-use Rattle.copies.specs.Copies.{Copied}
+use Rattle.entries.specs.declared.Pair.{Pair}
+use Rattle.entries.specs.Entries.{PairIs}
+use Rattle.copies.specs.Copies.{bothWords, Copied}
 
 -- The bytes of the number that some bytes give are those bytes.
 number-again : (width : ℕ) {l : List ℕ} → Bytes l → (i : ℕ) → bytesOf width (number (bytesAt width l i)) ≡ bytesAt width l i
@@ -53,8 +56,12 @@ written {l} {f} i j b h =
       outside = with-long-word-outside l i (longWord f j);
     }
 
-pub copied : {l after f : List ℕ} {i j x : ℕ} → Bytes f → i + entryBytes ≤ length l → x ≡ longWord f j → after ≡ withLongWord l i x → Copied l after i f j
-copied {l} {f = f} {i = i} {j = j} b h read put = subst (λ (z : List ℕ). Copied l z i f j) (sym (put ∙ ap (withLongWord l i) read)) (written i j b h)
+-- A pair of a file that is put into a list is copied.
+pub copied :
+    {l after f : List ℕ} {w : Stand} {k i : ℕ} {p : Pair} → Bytes f → i + entryBytes ≤ length l → PairIs p f w k → after ≡ withLongWord l i (bothWords p)
+    → Copied l after i f (standsAt w k)
+copied {l} {f = f} {w = w} {k = k} {i = i} b h is put =
+    subst (λ (z : List ℕ). Copied l z i f (standsAt w k)) (sym (put ∙ ap (withLongWord l i) (omega (arith, is .first, is .second)))) (written i (standsAt w k) b h)
 
 -- A list is filled entry by entry.
 module _ {before : List ℕ} {f : List ℕ} {w : Stand} where

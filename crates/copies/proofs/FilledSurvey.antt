@@ -1,6 +1,6 @@
 -- Lists that are filled from a file give the file's survey.
 -- Assumes nothing.
-use Prim.Native.Nat.{ℕ, _+_, _/_, _%_, _≤_, _<_}
+use Prim.Native.Nat.{ℕ, _+_, _*_, _/_, _%_, _≤_, _<_}
 use mathlib.Core.Path.{_≡_, refl, ap, ap₂, _∙_}
 use mathlib.Core.Bool.{Bool, true, false, cond}
 use mathlib.Core.List.{List}
@@ -9,8 +9,9 @@ use native.Mathlib.Omega.{arith}
 use lib.Dec.{ltb}
 use lib.ListN.{getD}
 use borrow.Author.Tests.{ltb-true}
+use Rattle.survey.specs.declared.stands.Stand.{Stand}
 use Rattle.survey.specs.Limits.{entryBytes}
-use Rattle.survey.specs.Words.{word, Stand, standsAt, lent, groupAt, linkAt, upTo, surveyAt, surveyOf}
+use Rattle.survey.specs.Words.{word, standsAt, lent, groupAt, linkAt, upTo, surveyAt, surveyOf}
 use Rattle.survey.specs.SurveyFile.{nIn, eIn, firstGroupBlock, firstLinkBlock, inBlocks, surveyIn}
 use Rattle.survey.specs.Promises.{Filled}
 
@@ -52,3 +53,24 @@ filled-survey {f} {g} {g′} {l} {l′} p q =
       group = upTo-same (nIn f) (record { dead = 0; live = 0 }) (groupAt g′ lent) (groupAt f (inBlocks firstGroupBlock)) (λ k h. filled-group p k h) i;
       link = upTo-same (eIn f) (record { from = 0; to = 0 }) (linkAt l′ lent) (linkAt f (inBlocks (firstLinkBlock (nIn f)))) (λ k h. filled-link q k h) i;
     }
+
+-- Two pairs of lists that begin with the same entries give the same survey.
+pub same-entries :
+    (n e : ℕ) (g g′ l l′ : List ℕ) → ((i : ℕ) → i < entryBytes * n → getD g i 0 ≡ getD g′ i 0) → ((i : ℕ) → i < entryBytes * e → getD l i 0 ≡ getD l′ i 0)
+    → surveyOf n e g l ≡ surveyOf n e g′ l′
+unfolding surveyAt
+same-entries n e g g′ l l′ p q =
+    λ i. record {
+      n = n;
+      e = e;
+      group =
+          upTo-same n (record { dead = 0; live = 0 }) (groupAt g lent) (groupAt g′ lent)
+          (λ k h i. record { dead = (simp add-zero at (same-word n g g′ p k 0 h (omega arith))) i; live = same-word n g g′ p k 4 h (omega arith) i }) i;
+      link =
+          upTo-same e (record { from = 0; to = 0 }) (linkAt l lent) (linkAt l′ lent)
+          (λ k h i. record { from = (simp add-zero at (same-word e l l′ q k 0 h (omega arith))) i; to = same-word e l l′ q k 4 h (omega arith) i }) i;
+    }
+  where
+    same-word : (c : ℕ) (x y : List ℕ) → ((i : ℕ) → i < entryBytes * c → getD x i 0 ≡ getD y i 0) → (k j : ℕ) → k < c → j + 4 ≤ entryBytes → word x (standsAt lent k + j) ≡ word y (standsAt lent k + j)
+    same-word c x y s k j h m =
+        omega (arith, simp add-zero at (s (standsAt lent k + j + 0) (omega arith)), s (standsAt lent k + j + 1) (omega arith), s (standsAt lent k + j + 2) (omega arith), s (standsAt lent k + j + 3) (omega arith))

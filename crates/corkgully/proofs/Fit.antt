@@ -24,7 +24,7 @@ pub reading-small : {f groups links : List ℕ} (r : Reading) {groups′ links�
 unfolding AllClear
 reading-small {f} {groups} {links} (Reading.Refused r) b says =
     let small : SmallBy (2 ^ 32) r = reader-small f groups links (omega (arith, word-below b 8)) (omega (arith, word-below b 12)) (says .verdict) in
-    record { number = small .number; place = omega (arith, small .place) }
+    record { number = small .number; above = small .above; place = omega (arith, small .place) }
 reading-small {f} {groups} {links} (Reading.Survey n e) b says =
     let fits = clear-range f (blocks-clear f (clear-fine (fileFaults f) (fine-clear (readerFaults f groups links) (says .verdict) .1))) in
     record { groups = omega (arith, says .lists .0, fits .groups); links = omega (arith, says .lists .1, fits .links) }
@@ -32,7 +32,7 @@ reading-small {f} {groups} {links} (Reading.Survey n e) b says =
 pub choice-small : (n e : ℕ) (groups links marks amounts : List ℕ) (r : Choice) {marks′ amounts′ : List ℕ} → ChooserSays n e groups links marks amounts r marks′ amounts′ → SmallChoice r
 choice-small n e groups links marks amounts (Choice.Refused r) says =
     let small : SmallBy (2 ^ 32) r = chooser-small n e groups links marks amounts (says .verdict) in
-    record { number = small .number; place = omega (arith, small .place) }
+    record { number = small .number; above = small .above; place = omega (arith, small .place) }
 choice-small n e groups links marks amounts (Choice.Chosen rounds) says =
     let call : AdmittedCall n e groups links marks amounts = admitted-call groups links marks amounts n e (says .verdict) in
     omega (arith, rounds-few (call .sound .someDead) (says .lists .counted), call .sound .groups)
@@ -40,5 +40,5 @@ choice-small n e groups links marks amounts (Choice.Chosen rounds) says =
 pub judgement-small : (n e : ℕ) (groups links marks amounts : List ℕ) (r : Judgement) → CheckerSays n e groups links marks amounts r → SmallJudgement r
 judgement-small n e groups links marks amounts (Judgement.Refused r) says =
     let small : SmallBy (2 ^ 32) r = checker-small n e groups links marks amounts (says .verdict) in
-    record { number = small .number; place = omega (arith, small .place) }
+    record { number = small .number; above = small .above; place = omega (arith, small .place) }
 judgement-small n e groups links marks amounts Judgement.Accepted says = tt

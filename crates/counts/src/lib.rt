@@ -2,7 +2,6 @@
 // compares them, a cross product or a weight, takes one of each.
 ghost use mathlib.Core.Path.{_≡_};
 ghost use Prim.Native.Nat.{_+_, _*_, _^_, _≤_, _<_};
-ghost use lib.Dec.{ltb};
 ghost use Rattle.survey.specs.Limits.{sumLimit};
 ghost use Rattle.survey.specs.Sets as sets;
 ghost use Rattle.counts.specs.Counts.{groupOf, CountsFit, WeightIs};
@@ -49,14 +48,6 @@ pub fn weight_of(g: Group, d: Dead, l: Live) -> Weight
     let plus = cross(l, dead);
     let minus = cross(cost(g), d);
     Weight { plus, minus }
-}
-
-// Specification 5.2: whether A is better than B, compared crosswise.
-pub fn better(dead_a: Dead, live_a: Live, dead_b: Dead, live_b: Live) -> bool
-    requires { ⌜ («dead_a» .0 ≤ sumLimit) × («live_a» .0 ≤ sumLimit) × («dead_b» .0 ≤ sumLimit) × («live_b» .0 ≤ sumLimit) ⌝ }
-    ensures { λ r. ⌜ r ≡ ltb («live_a» .0 * «dead_b» .0) («live_b» .0 * «dead_a» .0) ⌝ }
-{
-    cross(live_a, dead_b) < cross(live_b, dead_a)
 }
 
 pub fn add_dead(a: Dead, b: Dead) -> Dead

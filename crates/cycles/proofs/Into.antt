@@ -15,7 +15,7 @@ use Rattle.survey.specs.Refusals.{Clear}
 use Rattle.survey.specs.Faults.{badEnd, badOrder}
 use Rattle.survey.proofs.SumOrder.{sum-at-most}
 use Rattle.survey.proofs.Sums.{sum-cong, sum-zero, term-le}
-use Rattle.survey.proofs.Reaching.{Inside}
+use Rattle.survey.specs.Sound.{Inside}
 use Rattle.cycles.specs.Halves.{half, lowOf, Blank, Put, Noted, Kept}
 use Rattle.cycles.specs.Peeling.{into, Indexed, Tallied}
 use Rattle.cycles.proofs.Members.{sum-one, sum-some, one-at-most}

@@ -4,13 +4,12 @@ use mathlib.Core.Path.{_≡_}
 use mathlib.Core.List.{List}
 use borrow.Author.Tests.{lt-ltb}
 use Rattle.survey.specs.Words.{linkAt}
-use Rattle.survey.proofs.Reaching.{Inside}
-use Rattle.entries.specs.Entries.{stand}
+use Rattle.survey.specs.Sound.{Inside}
 use Rattle.cycles.specs.declared.lists.LinkList.{LinkList}
 use Rattle.cycles.specs.Lists.{linkIn, linksIn, LinksHold}
 use Rattle.cycles.proofs.Into.{inside}
 
-pub link-in : (l : List ℕ) (list : LinkList) (k : ℕ) → k < list .e → linkIn l list k ≡ linkAt l (stand (list .base) (list .gap)) k
+pub link-in : (l : List ℕ) (list : LinkList) (k : ℕ) → k < list .e → linkIn l list k ≡ linkAt l (list .stand) k
 unfolding linkIn
 link-in l list k h = rw (lt-ltb k (list .e) h)
 

@@ -9,7 +9,7 @@ use lib.ListN.{length}
 use borrow.Author.Tests.{eqb-true, eq-eqb, leb-true, le-leb, lt-leb, ltb-true, ltb-false}
 use Rattle.survey.specs.Survey.{Survey, Cycle}
 use Rattle.survey.specs.Sets.{In, Out, outside}
-use Rattle.survey.proofs.Reaching.{Inside}
+use Rattle.survey.specs.Sound.{Inside}
 use Rattle.survey.proofs.Cycles.{ranking-no-cycle, rest-cycle}
 use Rattle.survey.proofs.Totals.{not-both}
 use Rattle.refusals.specs.Searches.{Tells}

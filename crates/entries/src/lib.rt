@@ -1,68 +1,98 @@
-// Entries: a group, a link or an amount is 8 bytes. Entry k stands at base + 8·k + gap·(k / 62): with base 0 and gap 0 in a lent list, and in
-// the blocks of a file, 62 entries each, with the gap between two blocks' entries. So one function reads an entry from either, with no copy.
+// Entries: a group, a link or an amount is 8 bytes. In a lent list entries stand one after the other. The groups and links of a file stand in its blocks, and
+// are read there, each through the view of its block: so one function reads a group from either, with no copy.
 use counts::Dead;
 use counts::Group;
 use counts::Live;
+use survey::stands::Stand;
+use views::view::block_word;
 use words::long_word_at;
 use words::put_long_word;
 use words::word_at;
 ghost use mathlib.Core.Path.{_≡_};
-ghost use Prim.Native.Nat.{_^_, _<_};
-ghost use Rattle.survey.specs.Words.{standsAt, lent, entries, groupAt, linkAt, amountAt};
+ghost use Rattle.survey.specs.Words.{blockOfPair, lent, entries, groupAt, linkAt, amountsOf};
+ghost use Rattle.survey.specs.SurveyFile.{inBlocks};
 ghost use Rattle.counts.specs.Counts.{GroupIs};
-ghost use Rattle.entries.specs.Entries.{stand, EntryWithin, LinkIs, withAmount};
+ghost use Rattle.views.specs.Views.{Within};
+ghost use Rattle.entries.specs.Entries.{EntryWithin, PairIs, LinkIs, withAmount};
+
+// The two words of an entry.
+pub struct Pair {
+    pub first: u32,
+    pub second: u32,
+}
 
 pub struct Link {
     pub from: usize,
     pub to: usize,
 }
 
-// Whoever reads an entry has it within a slice, whose length is below 2^64: so the place fits.
-pub fn entry_place(base: usize, gap: usize, k: usize) -> usize
-    requires { ⌜ standsAt (stand base gap) k < 2 ^ 64 ⌝ }
-    ensures { λ r. ⌜ r ≡ standsAt (stand base gap) k ⌝ }
+// Entry k of a lent list.
+fn lent_pair(b: &[u8], k: usize) -> Pair
+    requires { ⌜ EntryWithin (now b) lent k ⌝ }
+    ensures { λ r. ⌜ PairIs r (now (b .entry)) lent k ⌝ }
 {
-    // In a lent list, where entries are looked at most, there is no gap and nothing to divide.
-    if gap == 0 {
-        return base + 8 * k;
+    let at = 8 * k;
+    Pair {
+        first: word_at(b, at),
+        second: word_at(b, at + 4),
     }
-    base + 8 * k + gap * (k / 62)
 }
 
-pub fn group_at(b: &[u8], base: usize, gap: usize, k: usize) -> Group
-    requires { ⌜ EntryWithin (now b) (stand base gap) k ⌝ }
-    ensures { λ r. ⌜ GroupIs r (groupAt (now (b .entry)) (stand base gap) k) ⌝ }
+// Pair k of the blocks from block start on: 62 to a block, from its word 2 on.
+pub fn block_pair(file: &[u8], start: usize, k: usize) -> Pair
+    requires { ⌜ Within (now file) (blockOfPair start k) ⌝ }
+    ensures { λ r. ⌜ PairIs r (now (file .entry)) (inBlocks start) k ⌝ }
 {
-    let at = entry_place(base, gap, k);
-    let dead = word_at(b, at);
-    let live = word_at(b, at + 4);
+    let b = start + k / 62;
+    let w = 2 + 2 * (k % 62);
+    Pair {
+        first: block_word(file, b, w),
+        second: block_word(file, b, w + 1),
+    }
+}
+
+// Entry k, wherever it stands.
+fn pair_at(b: &[u8], stand: Stand, k: usize) -> Pair
+    requires { ⌜ EntryWithin (now b) stand k ⌝ }
+    ensures { λ r. ⌜ PairIs r (now (b .entry)) stand k ⌝ }
+{
+    match stand {
+        Stand::Lent => lent_pair(b, k),
+        Stand::Blocks(start) => block_pair(b, start, k),
+    }
+}
+
+pub fn group_at(b: &[u8], stand: Stand, k: usize) -> Group
+    requires { ⌜ EntryWithin (now b) stand k ⌝ }
+    ensures { λ r. ⌜ GroupIs r (groupAt (now (b .entry)) stand k) ⌝ }
+{
+    let pair = pair_at(b, stand, k);
     Group {
-        dead: Dead(dead as u64),
-        live: Live(live as u64),
+        dead: Dead(pair.first as u64),
+        live: Live(pair.second as u64),
     }
 }
 
-pub fn link_at(b: &[u8], base: usize, gap: usize, k: usize) -> Link
-    requires { ⌜ EntryWithin (now b) (stand base gap) k ⌝ }
-    ensures { λ r. ⌜ LinkIs r (linkAt (now (b .entry)) (stand base gap) k) ⌝ }
+pub fn link_at(b: &[u8], stand: Stand, k: usize) -> Link
+    requires { ⌜ EntryWithin (now b) stand k ⌝ }
+    ensures { λ r. ⌜ LinkIs r (linkAt (now (b .entry)) stand k) ⌝ }
 {
-    let at = entry_place(base, gap, k);
-    let from = word_at(b, at);
-    let to = word_at(b, at + 4);
+    let pair = pair_at(b, stand, k);
     Link {
-        from: from as usize,
-        to: to as usize,
+        from: pair.first as usize,
+        to: pair.second as usize,
     }
 }
 
-pub fn amount_at(b: &[u8], base: usize, gap: usize, k: usize) -> u64
-    requires { ⌜ EntryWithin (now b) (stand base gap) k ⌝ }
-    ensures { λ r. ⌜ r ≡ amountAt (now (b .entry)) (stand base gap) k ⌝ }
+// Amounts stand in a lent list alone.
+pub fn amount_at(b: &[u8], k: usize) -> u64
+    requires { ⌜ EntryWithin (now b) lent k ⌝ }
+    ensures { λ r. ⌜ r ≡ amountsOf (now (b .entry)) k ⌝ }
 {
-    long_word_at(b, entry_place(base, gap, k))
+    long_word_at(b, 8 * k)
 }
 
-// "a list's length is its number of whole entries"
+// A list is as long as it has whole entries (Specification 8).
 pub fn whole_entries(b: &[u8]) -> usize
     ensures { λ r. ⌜ r ≡ entries (now (b .entry)) ⌝ }
 {

@@ -9,13 +9,13 @@ use borrow.Author.Tests.{eqb-true, eq-eqb, lt-ltb, le-ltb, ltb-true}
 use Rattle.survey.specs.Survey.{Survey}
 use Rattle.survey.specs.Sets.{Set, Closed, allGroups, outside, only, total}
 use Rattle.survey.specs.Rounds.{Weights, totalPlus}
-use Rattle.survey.specs.Balance.{Amounts, gets, pays}
-use Rattle.survey.proofs.Reaching.{Inside}
+use Rattle.survey.specs.Balance.{Amounts, gets, pays, excess, lack}
+use Rattle.survey.specs.Sound.{Inside}
 use Rattle.survey.proofs.Cycles.{Ranking}
 use Rattle.survey.proofs.SumOrder.{sum-le}
 use Rattle.survey.proofs.Sums.{sum-cong, sum-add, term-le}
 use Rattle.survey.proofs.Totals.{member-le}
-use Rattle.survey.proofs.BalanceLaw.{leaving, excess, lack, none-leaves, balance-law}
+use Rattle.survey.proofs.BalanceLaw.{leaving, none-leaves, balance-law}
 
 -- a set and its outside have, together, what all groups have
 total-split : (s : Survey) (f : ℕ → ℕ) (S : Set) → total s f S + total s f (outside S) ≡ total s f allGroups

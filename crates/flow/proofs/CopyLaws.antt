@@ -17,7 +17,7 @@ use Rattle.survey.specs.Rounds.{Weights}
 use Rattle.survey.specs.Balance.{Amounts, gets, pays}
 use Rattle.survey.specs.Words.{amountsOf}
 use Rattle.survey.proofs.Sums.{sum-cong}
-use Rattle.survey.proofs.Draining.{Obeys}
+use Rattle.survey.specs.Draining.{Obeys}
 use Rattle.words.proofs.WordLaws.{length-with-long-word, with-long-word-outside}
 use Rattle.entries.specs.Entries.{withAmount}
 use Rattle.entries.proofs.EntryLaws.{amount-with, amount-with-other}

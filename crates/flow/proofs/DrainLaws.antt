@@ -12,11 +12,10 @@ use borrow.Author.Tests.{eqb-true, eqb-false, eq-eqb, ltb-true, ltb-false}
 use Rattle.survey.specs.Limits.{groupLimit}
 use Rattle.survey.specs.Survey.{Survey}
 use Rattle.survey.specs.Sets.{Set, In}
-use Rattle.survey.specs.Balance.{Amounts}
+use Rattle.survey.specs.Balance.{Amounts, lack}
 use Rattle.survey.specs.Words.{markedSet, amountsOf}
 use Rattle.survey.specs.Rounds.{Weights}
-use Rattle.survey.proofs.BalanceLaw.{lack}
-use Rattle.survey.proofs.Draining.{Obeys, Drains}
+use Rattle.survey.specs.Draining.{Obeys, Drains}
 use Rattle.bits.specs.Bits.{bit}
 use Rattle.flow.specs.Links.{bare}
 use Rattle.flow.specs.Copies.{copied, Copy, Copied, Taken}

@@ -8,17 +8,19 @@ use lib.ListN.{length, getD, replicate, getD-replicate, length-replicate}
 use lib.Seq.{ext-getD}
 use lib.Dec.{eqb, ltb}
 use borrow.Author.Tests.{ltb-true, ltb-false}
-use Rattle.survey.specs.Limits.{linkLimit}
+use Rattle.survey.specs.Limits.{entryBytes, linkLimit}
 use Rattle.survey.specs.Survey.{Survey, ComesTo, one, more, Cycle}
 use Rattle.survey.specs.Sets.{In, Same, sum, only, total, outside}
 use Rattle.survey.specs.Rounds.{Weights}
 use Rattle.survey.specs.Balance.{Amounts, gets, pays, credit, debit}
 use Rattle.survey.specs.Words.{amountsOf, markedSet}
-use Rattle.survey.proofs.Reaching.{Inside}
+use Rattle.survey.specs.Sound.{Inside}
 use Rattle.survey.proofs.Sums.{sum-zero}
 use Rattle.survey.proofs.SameSets.{heaviest-same}
+use Rattle.survey.proofs.SameClaims.{SameAmounts, excess-same, lack-same}
 use Rattle.survey.proofs.Unique as unique
-use Rattle.survey.proofs.Draining.{Drains, drained-heaviest}
+use Rattle.survey.specs.Draining.{Drains}
+use Rattle.survey.proofs.Draining.{drained-heaviest}
 use Rattle.flow.specs.Links.{Given, bare}
 use Rattle.flow.specs.Copies.{endIn, copied, flowing, Copyable, Copy, Copied, Puttable, Put}
 use Rattle.flow.specs.Drains.{Net}
@@ -190,16 +192,47 @@ module _ {n e : ℕ} {links plus minus marks amounts ends p m : List ℕ} (c : W
         bit true = omega arith
         bit false = omega arith
 
--- Two results that are allowed have the same marks. (Not the same amounts: there can be several that prove it.)
-pub heaviest-one :
-    {n e : ℕ} {links plus minus marks amounts p m t a p′ m′ t′ a′ : List ℕ} → Heavy n e links plus minus marks amounts p m t a → Heavy n e links plus minus marks amounts p′ m′ t′ a′ → t ≡ t′
-heaviest-one {n} {e} {links} {plus} {minus} {marks} {t = t} {t′ = t′} x y = ext-getD 0 t t′ (x .marks-long ∙ sym (y .marks-long)) (λ g l. go g (ltb g n) refl)
-  where
-    same : Same (bare n e links) (markedSet t) (markedSet t′)
-    same =
-        unique.heaviest-one (x .proves (bare n e links) (bare-given n e links) (listed plus minus) (listed-weighed plus minus) .heaviest)
-        (y .proves (bare n e links) (bare-given n e links) (listed plus minus) (listed-weighed plus minus) .heaviest)
+-- Two results that are allowed have the same marks. Not the same amounts: several may prove the set. What the amounts leave of the balances goes by them: equal
+-- amounts leave equal halves, and past n and e nothing is left open.
+pub record SameHeavy (e : ℕ) (p p′ m m′ t t′ a a′ : List ℕ) : Type 0 where
+  pub marks : t ≡ t′
+  pub halves : ((k : ℕ) → k < e → amountsOf a k ≡ amountsOf a′ k) → (p ≡ p′) × (m ≡ m′)
+  pub once-equal : ((i : ℕ) → i < entryBytes * e → getD a i 0 ≡ getD a′ i 0) → a ≡ a′
 
-    go : (g : ℕ) (r : Bool) → ltb g n ≡ r → getD t g 0 ≡ getD t′ g 0
-    go g true r = let l = ltb-true g n r in bits-one (x .bits g l) (y .bits g l) (same .at g l)
-    go g false r = let l = ltb-false g n r in x .marks-rest g l ∙ sym (y .marks-rest g l)
+-- lists that agree up to a place, and from there on with a third
+alike : (c : ℕ) (before l l′ : List ℕ) → length l ≡ length before → length l′ ≡ length before → ((i : ℕ) → i < c → getD l i 0 ≡ getD l′ i 0)
+    → ((i : ℕ) → c ≤ i → getD l i 0 ≡ getD before i 0) → ((i : ℕ) → c ≤ i → getD l′ i 0 ≡ getD before i 0) → l ≡ l′
+alike c before l l′ long long′ first rest rest′ = ext-getD 0 l l′ (long ∙ sym long′) (λ i h. at i (ltb i c) refl)
+  where
+    at : (i : ℕ) (r : Bool) → ltb i c ≡ r → getD l i 0 ≡ getD l′ i 0
+    at i true r = first i (ltb-true i c r)
+    at i false r = let b = ltb-false i c r in rest i b ∙ sym (rest′ i b)
+
+pub heaviest-one :
+    {n e : ℕ} {links plus minus marks amounts p m t a p′ m′ t′ a′ : List ℕ} → Heavy n e links plus minus marks amounts p m t a
+    → Heavy n e links plus minus marks amounts p′ m′ t′ a′ → SameHeavy e p p′ m m′ t t′ a a′
+heaviest-one {n} {e} {links} {plus} {minus} {marks} {amounts} {p = p} {m = m} {t = t} {a = a} {p′ = p′} {m′ = m′} {t′ = t′} {a′ = a′} x y =
+    record {
+      marks = alike n marks t t′ (x .marks-long) (y .marks-long) (λ g l. bits-one (x .bits g l) (y .bits g l) (same .at g l)) (x .marks-rest) (y .marks-rest);
+      halves =
+          λ q. (
+            alike n plus p p′ (x .plus-long) (y .plus-long) (λ g l. one .balanced .above g l ∙ excess-same (equal q) w g ∙ sym (two .balanced .above g l)) (x .plus-rest) (y .plus-rest),
+            alike n minus m m′ (x .minus-long) (y .minus-long) (λ g l. one .balanced .below g l ∙ lack-same (equal q) w g ∙ sym (two .balanced .below g l)) (x .minus-rest) (y .minus-rest),
+          );
+      once-equal = λ q. alike (entryBytes * e) amounts a a′ (x .amounts-long) (y .amounts-long) q (x .amounts-rest) (y .amounts-rest);
+    }
+  where
+    w : Weights
+    w = listed plus minus
+
+    one : Proves (bare n e links) w (amountsOf a) p m t
+    one = x .proves (bare n e links) (bare-given n e links) w (listed-weighed plus minus)
+
+    two : Proves (bare n e links) w (amountsOf a′) p′ m′ t′
+    two = y .proves (bare n e links) (bare-given n e links) w (listed-weighed plus minus)
+
+    same : Same (bare n e links) (markedSet t) (markedSet t′)
+    same = unique.heaviest-one (one .heaviest) (two .heaviest)
+
+    equal : ((k : ℕ) → k < e → amountsOf a k ≡ amountsOf a′ k) → SameAmounts (bare n e links) (amountsOf a) (amountsOf a′)
+    equal q = record { at = q }

@@ -6,7 +6,7 @@ use native.Mathlib.Omega.{arith}
 use Rattle.survey.specs.Limits.{entryBytes}
 use Rattle.survey.specs.Survey.{Survey, Link}
 use Rattle.survey.specs.Words.{word, linkAt, lent, standsAt, surveyOf}
-use Rattle.survey.proofs.Reaching.{Inside}
+use Rattle.survey.specs.Sound.{Inside}
 use Rattle.survey.proofs.GivenSurvey.{given-n, given-e, given-link}
 use Rattle.flow.specs.Links.{endOf, Given, bare}
 

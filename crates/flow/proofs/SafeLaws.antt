@@ -12,11 +12,10 @@ use borrow.Author.Tests.{eqb-true, eqb-false, eq-eqb, ne-eqb, ltb-true, ltb-fals
 use Rattle.survey.specs.Limits.{amountLimit}
 use Rattle.survey.specs.Survey.{Survey, one}
 use Rattle.survey.specs.Rounds.{Weights}
-use Rattle.survey.specs.Balance.{Amounts}
-use Rattle.survey.proofs.Reaching.{Inside}
+use Rattle.survey.specs.Balance.{Amounts, lack}
+use Rattle.survey.specs.Sound.{Inside}
 use Rattle.survey.proofs.Cycles.{Ranking, no-cycle-ranking}
 use Rattle.survey.proofs.SumOrder.{sum-lt}
-use Rattle.survey.proofs.BalanceLaw.{lack}
 use Rattle.flow.specs.Copies.{endIn, copied, flowing, Copy}
 use Rattle.flow.specs.Ways.{Way, pays, gives-back}
 use Rattle.flow.specs.Sends.{Course, Movable, Moves, Takes, capped, free, End, Sendable, TakenBy, Sends, paid, gave}

@@ -11,8 +11,7 @@ use borrow.Author.Tests.{eqb-true, eqb-false, eq-eqb, ne-eqb}
 use Rattle.survey.specs.Survey.{Survey}
 use Rattle.survey.specs.Sets.{sum, only}
 use Rattle.survey.specs.Rounds.{Weights}
-use Rattle.survey.specs.Balance.{Amounts, gets, pays, credit, debit}
-use Rattle.survey.proofs.BalanceLaw.{excess, lack}
+use Rattle.survey.specs.Balance.{Amounts, gets, pays, credit, debit, excess, lack}
 use Rattle.flow.specs.Sends.{Balanced, Receivable, Moves}
 use Rattle.flow.proofs.SumLaws.{sum-change}
 

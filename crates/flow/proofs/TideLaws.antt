@@ -12,7 +12,7 @@ use Rattle.survey.specs.Survey.{Survey}
 use Rattle.survey.specs.Sets.{Set, Same, outside}
 use Rattle.survey.specs.Balance.{Amounts}
 use Rattle.survey.specs.Words.{markedSet}
-use Rattle.survey.proofs.Reaching.{Inside}
+use Rattle.survey.specs.Sound.{Inside}
 use Rattle.flow.specs.Copies.{endIn}
 use Rattle.flow.specs.Chains.{headAt, nextAt, Chainable, Chained}
 use Rattle.flow.specs.Ways.{WaysFound}

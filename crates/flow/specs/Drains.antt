@@ -8,7 +8,7 @@ use Rattle.survey.specs.Survey.{Survey}
 use Rattle.survey.specs.Sets.{Set, In, Contains, sum}
 use Rattle.survey.specs.Balance.{Amounts}
 use Rattle.survey.specs.Words.{markedSet, amountsOf}
-use Rattle.survey.proofs.Draining.{Obeys}
+use Rattle.survey.specs.Draining.{Obeys}
 use Rattle.bits.specs.Bits.{digit, bit}
 use Rattle.flow.specs.Links.{endOf, Given, LinksWithin}
 use Rattle.flow.specs.Ways.{Way}

@@ -10,7 +10,7 @@ use Rattle.survey.specs.Sets.{In, sum, only, outside}
 use Rattle.survey.specs.Rounds.{Weights, Heaviest}
 use Rattle.survey.specs.Balance.{Amounts, credit, debit}
 use Rattle.survey.specs.Words.{amountsOf, markedSet}
-use Rattle.survey.proofs.Draining.{Drains}
+use Rattle.survey.specs.Draining.{Drains}
 use Rattle.flow.specs.Links.{endOf, Given, bare, LinksWithin}
 use Rattle.flow.specs.Drains.{Net}
 use Rattle.flow.specs.Sends.{Balanced}

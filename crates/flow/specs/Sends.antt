@@ -8,8 +8,7 @@ use Rattle.survey.specs.Limits.{amountLimit}
 use Rattle.survey.specs.Survey.{Survey, Cycle}
 use Rattle.survey.specs.Sets.{allGroups}
 use Rattle.survey.specs.Rounds.{Weights, totalPlus}
-use Rattle.survey.specs.Balance.{Amounts}
-use Rattle.survey.proofs.BalanceLaw.{excess, lack}
+use Rattle.survey.specs.Balance.{Amounts, excess, lack}
 use Rattle.flow.specs.Copies.{endIn, copied, flowing, Copy}
 
 -- ---- the state: amounts, excess and lack

@@ -25,7 +25,7 @@ pub fn take_amounts(e: usize, amounts: &[u8], x: &mut [u64])
 {
     let mut k = 0;
     while k < e {
-        x[k] = amount_at(amounts, 0, 0, k);
+        x[k] = amount_at(amounts, k);
         k += 1;
     }
 }

@@ -9,7 +9,7 @@ use borrow.Author.Tests.{eqb-true, eqb-false, leb-true, leb-false, eq-eqb, ne-eq
 use Rattle.survey.specs.Limits.{blockPairs}
 use Rattle.survey.specs.SurveyFile.{firstGroupBlock, firstLinkBlock, kindOf, pairWords, usedWords}
 
--- "Block 0", "then the group blocks", "then the link blocks"
+-- the three sorts, each with its place, its kind and its used words
 pub data BlockSort (n e b : ℕ) : Type 0 where
   header : b ≡ 0 → kindOf n b ≡ 1 → usedWords n e b ≡ 4 → BlockSort n e b
   groups : 0 < b → b < firstLinkBlock n → kindOf n b ≡ 2 → usedWords n e b ≡ pairWords (n - blockPairs * (b - firstGroupBlock)) → BlockSort n e b
@@ -55,10 +55,19 @@ module _ (n e b : ℕ) where
       go (groups l m two u) = (l, u)
       go (links m three u) = absurd (omega arith)
 
-  pub kind-other : (kindOf n b ≡ 1 → ⊥) → (kindOf n b ≡ 2 → ⊥) → (firstLinkBlock n ≤ b) × (usedWords n e b ≡ pairWords (e - blockPairs * (b - firstLinkBlock n)))
-  kind-other d d′ = go sort-of
+  pub kind-3 : kindOf n b ≡ 3 → (firstLinkBlock n ≤ b) × (usedWords n e b ≡ pairWords (e - blockPairs * (b - firstLinkBlock n)))
+  kind-3 k = go sort-of
     where
       go : BlockSort n e b → (firstLinkBlock n ≤ b) × (usedWords n e b ≡ pairWords (e - blockPairs * (b - firstLinkBlock n)))
-      go (header z one u) = absurd (d one)
-      go (groups l m two u) = absurd (d′ two)
+      go (header z one u) = absurd (omega arith)
+      go (groups l m two u) = absurd (omega arith)
       go (links m three u) = (m, u)
+
+  -- there is no other
+  pub kind-known : (kindOf n b ≡ 1 → ⊥) → (kindOf n b ≡ 2 → ⊥) → (kindOf n b ≡ 3 → ⊥) → ⊥
+  kind-known d₁ d₂ d₃ = go sort-of
+    where
+      go : BlockSort n e b → ⊥
+      go (header z one u) = d₁ one
+      go (groups l m two u) = d₂ two
+      go (links m three u) = d₃ three

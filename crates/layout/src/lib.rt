@@ -1,6 +1,5 @@
 // What the header of a survey file says, and the blocks that follow from it: how many, of which kind, and which of their words are in use.
-// "Then the group blocks, kind 2: up to 62 pairs (dead, live) from word 2 on. Then the link blocks, kind 3: up to 62 pairs (p, q). Every block but
-// the last of its kind is full. With e = 0 there is no link block."
+// A header, as many blocks as the groups fill, and as many as the links do (Specification 9).
 use views::view::block_word;
 ghost use mathlib.Core.Path.{_≡_};
 ghost use Prim.Native.Nat.{_-_, _*_, _^_, _<_};
@@ -9,7 +8,7 @@ ghost use Rattle.survey.specs.SurveyFile.{nIn, eIn, blocksFor, firstLinkBlock, 
 ghost use Rattle.views.specs.Views.{Within};
 ghost use Rattle.layout.specs.Sizes.{Countable};
 
-// "Block 0, kind 1: word 2 is n, word 3 is e."
+// The header has n and e after its number and its kind.
 pub fn n_in(file: &[u8]) -> usize
     requires { ⌜ Within (now file) 0 ⌝ }
     ensures { λ r. ⌜ (r ≡ nIn (now (file .entry))) × (r < 2 ^ 32) ⌝ }
@@ -73,15 +72,15 @@ fn words_left(k: usize, earlier: usize) -> usize
     2 + 2 * (k - taken)
 }
 
-// From this word on the words of block b are unused: its kind decides.
-pub fn used_words(n: usize, e: usize, b: usize) -> usize
-    requires { ⌜ Countable n e b ⌝ }
+// From this word on the words of block b are unused: its kind decides, which is the right one for its place.
+pub fn used_words(kind: u32, n: usize, e: usize, b: usize) -> usize
+    requires { ⌜ Countable n e b × (kind ≡ kindOf n b) ⌝ }
     ensures { λ r. ⌜ r ≡ usedWords n e b ⌝ }
 {
-    let kind = kind_of(n, b);
     match kind {
         1 => 4,
         2 => words_left(n, b - 1),
-        _ => words_left(e, b - first_link_block(n)),
+        3 => words_left(e, b - first_link_block(n)),
+        _ => 126, // no block is of another kind
     }
 }

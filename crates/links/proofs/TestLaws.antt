@@ -16,7 +16,7 @@ pub second-end : {r : entries.Link} {k : Link} (n : ℕ) → LinkIs r k → r .f
 second-end {r} n i h =
     tells-by (leb n (r .to)) (λ t. inr (omega (arith, leb-true n (r .to) t))) (λ t. ⊎-elim (λ a. omega arith) (λ a. omega (arith, leb-false n (r .to) t)))
 
--- "strictly ascending by p, then q": where the froms are equal, it lies with the tos, else with the froms. Link k has one before it.
+-- Of two links in a row: where the froms are equal, their order lies with the tos, else with the froms. Link k has one before it.
 module _ (a b : Link) {k : ℕ} (later : 0 < k) where
   pub order-by-to : a .from ≡ b .from → Tells ((0 < k) × (Ascends a b → ⊥)) (leb (b .to) (a .to))
   order-by-to e =

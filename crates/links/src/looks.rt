@@ -1,4 +1,4 @@
-// What is looked for at the links, one after the other: 9, "a link end is n or more", and 10, "a link isn't above the one before it".
+// What is looked for at the links, one after the other: 9, an end that is no group, and 10, a link that does not come after the one before it.
 use cycles::lists::LinkList;
 use cycles::lists::link_of;
 use refusals::found::Found;

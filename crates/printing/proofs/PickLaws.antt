@@ -18,7 +18,8 @@ use Rattle.survey.specs.Faults.{OneShort, listFaults, fileFaults, readerFaults,
 use Rattle.survey.specs.Promises.{ReaderSays, ChooserSays}
 use Rattle.survey.proofs.Verdicts.{fine-clear, clear-fine, answers-one}
 use Rattle.survey.proofs.GivenSurvey.{given-n}
-use Rattle.survey.proofs.Admitted.{Sound, admitted-sound}
+use Rattle.survey.specs.Sound.{Sound}
+use Rattle.survey.proofs.Admitted.{admitted-sound, file-survey}
 use Rattle.copies.proofs.FilledSurvey.{filled-survey}
 use Rattle.calls.proofs.CallLaws.{long-enough, call-answered}
 use Rattle.weights.specs.Marked.{groupsOf}
@@ -119,14 +120,10 @@ module _ {f groups links : List ℕ} (g : length groups ≡ 1_024) (l : length l
     same-survey : surveyOf n e groups′ links′ ≡ surveyIn f
     same-survey = rw (s .lists .0, s .lists .1) (filled-survey (s .lists .2) (s .lists .3))
 
-    admitted : Admitted (surveyIn f)
-    unfolding AllClear surveyAt
-    admitted = record { clear = (clear .1 .1 .1 .0, clear .1 .1 .1 .1 .1 .1 .1) }
-
     pub survey-read : {out : List ℕ} → textLimit ≤ length out → ReadSurvey n e groups′ links′ out
     survey-read room =
         record {
-          admitted = rw same-survey admitted;
+          admitted = rw same-survey (file-survey {f = f} (record { clear = clear }));
           groups-long = omega (arith, s .lists .2 .long);
           links-long = omega (arith, s .lists .3 .long);
           room = room;

@@ -10,12 +10,12 @@ use Rattle.survey.specs.declared.answers.Refusal.{Refusal}
 use Rattle.survey.specs.Survey.{Survey}
 use Rattle.survey.specs.Sets.{Set, Same, deadOf, costOf}
 use Rattle.survey.specs.SurveyFile.{surveyIn}
-use Rattle.survey.specs.Refusals.{fine, Answers}
+use Rattle.survey.specs.Refusals.{Answers}
 use Rattle.survey.specs.Refusals as refusals
 use Rattle.survey.specs.Faults.{fileFaults, AdmittedFile}
 use Rattle.survey.proofs.SameSets.{same-refl, total-same}
 use Rattle.survey.proofs.Unique.{pick-one, rounds-one}
-use Rattle.survey.proofs.Verdicts.{clear-fine, answers-one}
+use Rattle.survey.proofs.Verdicts.{answers-one, none-refused}
 use Rattle.printing.specs.Texts.{lineFeed, decimal}
 use Rattle.printing.specs.Printing.{numberLines, pickText, refusedLine, Prints, picked, refused, Printed}
 
@@ -33,10 +33,7 @@ text-same : (s : Survey) {A B : Set} {j k : ℕ} → Same s A B → j ≡ k → 
 text-same s {A} {B} e q = rw (total-same e (λ g. 1), total-same e (deadOf s), total-same e (costOf s), numbers-same (s .n) A B (e .at), q)
 
 apart : {f : List ℕ} {r : Refusal} → AdmittedFile f → Answers (fileFaults f) (refusals.refused r) → ⊥
-apart {f} {r} a b = at (answers-one (fileFaults f) (clear-fine (fileFaults f) (a .clear)) b)
-  where
-    at : fine ≡ refusals.refused r → ⊥
-    at q = let z : _≡_ {A = ℕ} 0 1 = cc in omega arith
+apart {f} a b = none-refused (fileFaults f) (a .clear) b refl
 
 same-refusal : {r r′ : Refusal} → refusals.refused r ≡ refusals.refused r′ → r ≡ r′
 same-refusal q = cc

@@ -12,7 +12,8 @@ use Rattle.survey.specs.Limits.{groupLimit, linkLimit, sumLimit}
 use Rattle.survey.specs.Survey.{Survey}
 use Rattle.survey.specs.Sets.{Set, D, L}
 use Rattle.survey.specs.Rounds.{RoundsOf}
-use Rattle.survey.proofs.Admitted.{Sound, dead-small, cost-small}
+use Rattle.survey.specs.Sound.{Sound}
+use Rattle.survey.proofs.Admitted.{dead-small, cost-small}
 use Rattle.survey.proofs.RoundCount.{rounds-few, size-few}
 use Rattle.printing.specs.Texts.{lineFeed, space, surveyWord, chosenWord, deadWord, liveWord, roundsWord, decimal, named}
 use Rattle.printing.specs.Printing.{surveyLine, chosenLine, size, numberLine, numberLines, pickText}

@@ -4,14 +4,13 @@ use native.Mathlib.Omega.{arith}
 use mathlib.Core.Path.{_≡_}
 use mathlib.Core.Logic.{inl, inr}
 use mathlib.Core.List.{List}
-use Rattle.survey.specs.Limits.{groupLimit, linkLimit, blockBytes, entryBytes}
+use Rattle.survey.specs.Limits.{groupLimit, linkLimit}
 use Rattle.survey.specs.Words.{entries, surveyAt}
-use Rattle.survey.specs.SurveyFile.{nIn, eIn, firstLinkBlock, surveyIn}
+use Rattle.survey.specs.SurveyFile.{nIn, eIn, firstGroupBlock, firstLinkBlock, inBlocks, surveyIn}
 use Rattle.survey.specs.Refusals.{AllClear, Answers, Verdict}
 use Rattle.survey.specs.Faults.{badRange, surveyFaults, listFaults, fileFaults}
 use Rattle.survey.proofs.Verdicts.{afterwards}
 use Rattle.survey.proofs.Small.{look-on}
-use Rattle.entries.specs.Entries.{stand}
 use Rattle.views.specs.Views.{Within}
 use Rattle.blocks.specs.FileFaults.{blockFaults}
 use Rattle.copies.specs.Copies.{Fillable}
@@ -34,7 +33,7 @@ clear-range f c =
     at-most : {x y : ℕ} → (y < x → ⊥) → x ≤ y
     at-most d = omega arith
 
--- What the code calls n, e and the place of the first link is what the file says.
+-- What the code calls n, e and the first link block is what the file says.
 module _ (f : List ℕ) (c : AllClear (blockFaults f)) where
   laid : Layout f (nIn f) (eIn f)
   laid = clear-layout c
@@ -42,27 +41,25 @@ module _ (f : List ℕ) (c : AllClear (blockFaults f)) where
   pub header-within : Within f 0
   header-within = layout-within laid 0 (omega arith)
 
-  module _ {n e base : ℕ} (en : n ≡ nIn f) (ee : e ≡ eIn f) (eb : base ≡ blockBytes * firstLinkBlock n + entryBytes) where
-    same-base : base ≡ blockBytes * firstLinkBlock (nIn f) + entryBytes
-    same-base = rw en at eb
+  module _ {n e first : ℕ} (en : n ≡ nIn f) (ee : e ≡ eIn f) (ef : first ≡ firstLinkBlock n) where
+    same-first : first ≡ firstLinkBlock (nIn f)
+    same-first = rw en at ef
 
-    pub groups-fit : EntriesFit n groupLimit f (stand 520 16)
+    pub groups-fit : EntriesFit n groupLimit f (inBlocks firstGroupBlock)
     groups-fit = record { fit = λ h j l. groups-within laid j (rw en at l) }
 
-    pub links-fit : EntriesFit e linkLimit f (stand base 16)
-    links-fit = record { fit = λ h j l. rw same-base (links-within laid j (rw ee at l)) }
+    pub links-fit : EntriesFit e linkLimit f (inBlocks first)
+    links-fit = record { fit = λ h j l. rw same-first (links-within laid j (rw ee at l)) }
 
-    pub groups-fillable : {list : List ℕ} → groupLimit ≤ entries list → Fillable list n f (stand 520 16)
-    groups-fillable h =
-        record { room = omega (arith, clear-range f c .groups, en); within = groups-fit .fit (omega (arith, clear-range f c .groups, en)) }
+    pub groups-fillable : {list : List ℕ} → groupLimit ≤ entries list → Fillable list n f firstGroupBlock
+    groups-fillable h = record { room = omega (arith, clear-range f c .groups, en); within = groups-fit .fit (omega (arith, clear-range f c .groups, en)) }
 
-    pub links-fillable : {list : List ℕ} → linkLimit ≤ entries list → Fillable list e f (stand base 16)
-    links-fillable h =
-        record { room = omega (arith, clear-range f c .links, ee); within = links-fit .fit (omega (arith, clear-range f c .links, ee)) }
+    pub links-fillable : {list : List ℕ} → linkLimit ≤ entries list → Fillable list e f first
+    links-fillable h = record { room = omega (arith, clear-range f c .links, ee); within = links-fit .fit (omega (arith, clear-range f c .links, ee)) }
 
     -- After the rows 2 to 7 come those of the survey, 8 to 12; 5 was looked for before.
-    pub then-survey : {v : Verdict} → Answers (listFaults (surveyAt n e f (stand 520 16) f (stand base 16))) v → Answers (fileFaults f) v
+    pub then-survey : {v : Verdict} → Answers (listFaults (surveyAt n e f (inBlocks firstGroupBlock) f (inBlocks first))) v → Answers (fileFaults f) v
     unfolding AllClear surveyAt
     then-survey a =
         afterwards (blockFaults f) c
-        (look-on (badRange (nIn f) (eIn f)) (surveyFaults (surveyIn f)) (c .1 .1 .1 .0) (rw (same-base, en, ee) at a))
+        (look-on (badRange (nIn f) (eIn f)) (surveyFaults (surveyIn f)) (c .1 .1 .1 .0) (rw (same-first, en, ee) at a))

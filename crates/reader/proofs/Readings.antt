@@ -6,14 +6,13 @@ use mathlib.Core.Logic.{inl, inr}
 use mathlib.Core.List.{List, [], _∷_, _++_}
 use Rattle.survey.specs.declared.answers.Reading.{Reading}
 use Rattle.survey.specs.declared.answers.Refusal.{Refusal}
-use Rattle.survey.specs.Limits.{groupLimit, linkLimit, blockBytes, entryBytes}
+use Rattle.survey.specs.Limits.{groupLimit, linkLimit}
 use Rattle.survey.specs.Words.{entries}
-use Rattle.survey.specs.SurveyFile.{nIn, eIn, firstLinkBlock, surveyIn}
+use Rattle.survey.specs.SurveyFile.{nIn, eIn, firstGroupBlock, firstLinkBlock, inBlocks, surveyIn}
 use Rattle.survey.specs.Refusals.{fine, refused, Fault, Clear, AllClear, Answers}
 use Rattle.survey.specs.Faults.{OneShort, tooShort, groupList, linkList, surveyFaults, fileFaults}
 use Rattle.survey.specs.Promises.{Filled, ReaderSays}
 use Rattle.survey.proofs.Verdicts.{past, fine-clear}
-use Rattle.entries.specs.Entries.{stand}
 use Rattle.refusals.specs.Refused.{refusalWhole}
 use Rattle.refusals.proofs.Looking.{stop-whole, whole-clear}
 use Rattle.blocks.specs.FileFaults.{blockFaults}
@@ -54,9 +53,11 @@ module _ (f g l : List ℕ) where
     pub file-refused : {r : Refusal} → Answers (fileFaults f) (refused r) → ReaderSays f g l (Reading.Refused r) g l
     file-refused a = record { verdict = past long-enough a; lists = (refl, refl) }
 
-    pub file-read : {n e base : ℕ} {g′ l′ : List ℕ} → Answers (fileFaults f) fine → n ≡ nIn f → e ≡ eIn f → base ≡ blockBytes * firstLinkBlock n + entryBytes → Filled g g′ n f (stand 520 16) → Filled l l′ e f (stand base 16) → ReaderSays f g l (Reading.Survey n e) g′ l′
-    file-read a en ee eb x y =
+    pub file-read :
+        {n e first : ℕ} {g′ l′ : List ℕ} → Answers (fileFaults f) fine → n ≡ nIn f → e ≡ eIn f → first ≡ firstLinkBlock n
+        → Filled g g′ n f (inBlocks firstGroupBlock) → Filled l l′ e f (inBlocks first) → ReaderSays f g l (Reading.Survey n e) g′ l′
+    file-read a en ee ef x y =
         record {
           verdict = past long-enough a;
-          lists = (en, ee, rw en at x, rw (eb, ee, en) at y);
+          lists = (en, ee, rw en at x, rw (ef, ee, en) at y);
         }

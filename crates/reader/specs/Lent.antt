@@ -4,6 +4,6 @@ use mathlib.Core.List.{List, [], _∷_}
 use Rattle.survey.specs.Words.{entries}
 use Rattle.survey.specs.Faults.{groupList, linkList, OneShort}
 
--- "a lent list is shorter than 128 (groups) or 1,024 (links)"
+-- a list has room for fewer groups or links than a survey can have
 abbrev pub ListsShort : List ℕ → List ℕ → Type 0
 ListsShort groups links = OneShort (groupList (entries groups) ∷ linkList (entries links) ∷ [])

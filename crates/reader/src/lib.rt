@@ -1,5 +1,5 @@
 // The reader of survey files. It looks at the lent lists, then at the blocks, then at the survey they hold, and copies the survey out only when
-// nothing is at fault: so a refusal has changed nothing.
+// nothing is at fault: so a refusal has changed nothing. Every word that it takes from the file, it takes through the view of a block.
 use admit::admit;
 use blocks::block_faults;
 use copies::fill;
@@ -10,9 +10,7 @@ use layout::n_in;
 use refusals::refused_whole;
 use survey::answers::Admission;
 use survey::answers::Reading;
-ghost use mathlib.Core.Path.{_≡_};
-ghost use Prim.Native.Nat.{_+_, _*_, _^_, _<_};
-ghost use Rattle.survey.specs.SurveyFile.{firstLinkBlock};
+use survey::stands::Stand;
 ghost use Rattle.survey.specs.Refusals.{Answers};
 ghost use Rattle.survey.specs.Faults.{fileFaults};
 ghost use Rattle.survey.specs.Answers.{admissionVerdict};
@@ -20,12 +18,10 @@ ghost use Rattle.survey.specs.Promises.{ReaderSays};
 ghost use Rattle.refusals.specs.Searches.{Tells};
 ghost use Rattle.reader.specs.Lent.{ListsShort};
 
-// Where the pairs of the group blocks stand: from word 2 of block 1 on, with 16 bytes between the pairs of one block and of the next.
-const GROUP_BASE: usize = 520;
+// The groups stand in the blocks from this one on, after the header.
+const GROUP_BLOCK: usize = 1;
 
-const BLOCK_GAP: usize = 16;
-
-// 1: "a lent list is shorter than 128 (groups) or 1,024 (links)"
+// 1: a list has room for fewer than 128 groups or 1,024 links (Specification 11).
 fn lists_short(groups: &[u8], links: &[u8]) -> bool
     ensures { λ r. ⌜ Tells (ListsShort (now (groups .entry)) (now (links .entry))) r ⌝ }
 {
@@ -38,14 +34,6 @@ fn lists_short(groups: &[u8], links: &[u8]) -> bool
     false
 }
 
-// Where the pairs of the link blocks stand.
-fn link_base(n: usize) -> usize
-    requires { ⌜ n < 2 ^ 32 ⌝ }
-    ensures { λ r. ⌜ r ≡ 512 * firstLinkBlock n + 8 ⌝ }
-{
-    512 * first_link_block(n) + 8
-}
-
 // 2 to 12: the file's blocks, and then the survey in them, where it stands.
 fn faults_in(file: &[u8]) -> Admission
     ensures { λ r. ⌜ Answers (fileFaults (now (file .entry))) (admissionVerdict r) ⌝ }
@@ -56,8 +44,15 @@ fn faults_in(file: &[u8]) -> Admission
     }
     let n = n_in(file);
     let e = e_in(file);
-    let base = link_base(n);
-    admit(n, e, file, GROUP_BASE, BLOCK_GAP, file, base, BLOCK_GAP)
+    let link_block = first_link_block(n);
+    admit(
+        n,
+        e,
+        file,
+        Stand::Blocks(GROUP_BLOCK),
+        file,
+        Stand::Blocks(link_block),
+    )
 }
 
 pub fn read(file: &[u8], groups: &mut [u8], links: &mut [u8]) -> Reading
@@ -72,8 +67,8 @@ pub fn read(file: &[u8], groups: &mut [u8], links: &mut [u8]) -> Reading
     }
     let n = n_in(file);
     let e = e_in(file);
-    let base = link_base(n);
-    fill(groups, n, file, GROUP_BASE, BLOCK_GAP);
-    fill(links, e, file, base, BLOCK_GAP);
+    let link_block = first_link_block(n);
+    fill(groups, n, file, GROUP_BLOCK);
+    fill(links, e, file, link_block);
     Reading::Survey { n, e }
 }

@@ -6,25 +6,17 @@ use native.Mathlib.Omega.{arith}
 use mathlib.Core.Path.{_≡_, refl}
 use mathlib.Core.Bool.{Bool, true, false}
 use mathlib.Core.Logic.{_⊎_, inl, inr, ⊎-elim}
+use mathlib.Core.List.{List}
 use Rattle.survey.specs.Limits.{groupLimit, linkLimit, countLimit, sumLimit}
 use Rattle.survey.specs.Survey.{Link, Survey, Ascends, Cycle}
 use Rattle.survey.specs.Sets.{Set, In, allGroups, total, deadOf, costOf, D, L, sum, only}
 use Rattle.survey.specs.Refusals.{AllClear, Clear}
-use Rattle.survey.specs.Faults.{badCount, badEnd, badOrder, anyCycle, noDead, Admitted}
-use Rattle.survey.proofs.Reaching.{Inside}
+use Rattle.survey.specs.Words.{surveyAt}
+use Rattle.survey.specs.SurveyFile.{surveyIn}
+use Rattle.survey.specs.Faults.{badCount, badEnd, badOrder, anyCycle, noDead, Admitted, AdmittedFile}
+use Rattle.survey.specs.Sound.{Inside, Sound}
 use Rattle.survey.proofs.SumOrder.{sum-at-most}
 use Rattle.survey.proofs.Totals.{total-within, member-le}
-
-pub record Sound (s : Survey) : Type 0 where
-  pub someGroup : 0 < s .n
-  pub groups : s .n ≤ groupLimit
-  pub links : s .e ≤ linkLimit
-  pub dead : (g : ℕ) → g < s .n → s .group g .dead ≤ countLimit
-  pub live : (g : ℕ) → g < s .n → s .group g .live ≤ countLimit
-  pub inside : Inside s
-  pub ascends : (k : ℕ) → 0 < k → k < s .e → Ascends (s .link (k - 1)) (s .link k)
-  pub noCycle : Cycle s → ⊥
-  pub someDead : 0 < D s allGroups
 
 -- whether one link stands below another can be told
 ascends-decided : (a b : Link) → (Ascends a b → ⊥) ⊎ Ascends a b
@@ -88,6 +80,11 @@ admitted-sound {s} a =
 
     none-dead : D s allGroups ≡ 0 → (g : ℕ) → g < s .n → deadOf s g ≡ 0
     none-dead z g l = omega (arith, member-le s (deadOf s) allGroups g l refl)
+
+-- The survey of an admitted file is admitted.
+pub file-survey : {f : List ℕ} → AdmittedFile f → Admitted (surveyIn f)
+unfolding AllClear surveyAt
+file-survey a = record { clear = (a .clear .1 .1 .1 .0, a .clear .1 .1 .1 .1 .1 .1 .1) }
 
 -- What D and L can come to: the counts of as many groups as there may be.
 module _ {s : Survey} (x : Sound s) (S : Set) where

@@ -6,21 +6,14 @@ use mathlib.Core.Bool.{Bool, true, false, _&&_, not}
 use Rattle.survey.specs.Survey.{Survey}
 use Rattle.survey.specs.Sets.{Set, In, Out, Closed, sum, only, total}
 use Rattle.survey.specs.Rounds.{Weights, totalPlus, totalMinus}
-use Rattle.survey.specs.Balance.{Amounts, gets, pays, credit, debit}
-use Rattle.survey.proofs.Reaching.{Inside}
+use Rattle.survey.specs.Balance.{Amounts, gets, pays, credit, debit, excess, lack}
+use Rattle.survey.specs.Sound.{Inside}
 use Rattle.survey.proofs.Sums.{sum-cong, sum-add, sum-zero, terms-zero, exchange}
 use Rattle.survey.proofs.Totals.{total-add, total-cong, not-both}
 
 -- the amounts on the links from inside the set to outside
 unfoldable pub leaving : Survey → Amounts → Set → ℕ
 leaving s a S = sum (s .e) (λ k. only (S (s .link k .from) && not (S (s .link k .to))) (a k))
-
--- the two halves of a balance: what it is above 0, and what it is below
-abbrev pub excess : Survey → Weights → Amounts → ℕ → ℕ
-excess s w a g = credit s w a g - debit s w a g
-
-abbrev pub lack : Survey → Weights → Amounts → ℕ → ℕ
-lack s w a g = debit s w a g - credit s w a g
 
 module _ (s : Survey) (a : Amounts) (S : Set) where
   -- nothing leaves, and so no link that leaves has an amount

@@ -7,10 +7,10 @@ use Rattle.survey.specs.Survey.{Survey}
 use Rattle.survey.specs.Sets.{Set, In, Closed, Eligible, Contains, total, deadOf, costOf, D, L}
 use Rattle.survey.specs.Pick.{Candidate, BetterSet, Best, IsPick}
 use Rattle.survey.specs.Rounds.{weights, totalPlus, totalMinus}
-use Rattle.survey.specs.Balance.{Amounts, BalanceAbove0, credit, debit, Settled, LargestSettled, Accepted}
-use Rattle.survey.proofs.Reaching.{Inside}
+use Rattle.survey.specs.Balance.{Amounts, BalanceAbove0, credit, debit, Settled, LargestSettled, Accepted, excess, lack}
+use Rattle.survey.specs.Sound.{Inside}
 use Rattle.survey.proofs.Totals.{total-mul, total-zero, member-le}
-use Rattle.survey.proofs.BalanceLaw.{leaving, excess, lack, leaves-none, balance-law}
+use Rattle.survey.proofs.BalanceLaw.{leaving, leaves-none, balance-law}
 
 -- what a set weighs, by the weights that C gives
 pub weighs-plus : (s : Survey) (C B : Set) → totalPlus s (weights s C) B ≡ D s B * L s C

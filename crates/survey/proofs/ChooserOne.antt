@@ -1,5 +1,5 @@
--- Two answers that the chooser's promise allows have the same refusal, marks and rounds; the amounts are the one exception. And the chooser's own
--- pick and amounts are accepted by the checker's definition.
+-- Two answers that the chooser's promise allows have the same refusal, marks and rounds. The first e amounts are the one exception: several may meet
+-- the balance rule. And the chooser's own pick and amounts are accepted by the checker's definition.
 use Prim.Native.Nat.{ℕ, _*_, _≤_, _<_}
 use native.Mathlib.Decide.{decLt}
 use native.Mathlib.Omega.{arith}
@@ -13,10 +13,10 @@ use lib.Dec.{eqb}
 use Rattle.survey.specs.declared.answers.Choice.{Choice}
 use Rattle.survey.specs.declared.answers.Judgement.{Judgement}
 use Rattle.survey.specs.declared.answers.Refusal.{Refusal}
-use Rattle.survey.specs.Limits.{amountLimit}
+use Rattle.survey.specs.Limits.{entryBytes, amountLimit}
 use Rattle.survey.specs.Survey.{Survey}
 use Rattle.survey.specs.Sets.{Same}
-use Rattle.survey.specs.Words.{entries, surveyOf, markedSet, amountsOf}
+use Rattle.survey.specs.Words.{entries, surveyAt, surveyOf, markedSet, amountsOf}
 use Rattle.survey.specs.Refusals.{Verdict, fine, refused, Clear, AllClear, Answers}
 use Rattle.survey.specs.Faults.{callLists, tooShort, listFaults, claimFaults, chooserFaults, checkerFaults}
 use Rattle.survey.specs.Answers.{choiceVerdict, judgementVerdict}
@@ -41,29 +41,59 @@ marked-one {s} {before} {after} {after′} a b e =
     at g (yes l) = bits-same (getD after g 0) (getD after′ g 0) (a .bits g l) (b .bits g l) (e .at g l)
     at g (no d) = a .rest g (omega arith) ∙ sym (b .rest g (omega arith))
 
--- the same answer, and the same marks
-pub record SameChoice (r r′ : Choice) (m m′ : List ℕ) : Type 0 where
+-- lists of amounts that are put alike, but for the first e entries: the same once those are
+amounts-one : {before a a′ : List ℕ} {e : ℕ} → AmountsPut before a e → AmountsPut before a′ e → ((i : ℕ) → i < entryBytes * e → getD a i 0 ≡ getD a′ i 0) → a ≡ a′
+amounts-one {before} {a} {a′} {e} x y h =
+    ext-getD 0 a a′ (x .long ∙ sym (y .long)) (λ i l. at i (decLt i (entryBytes * e)))
+  where
+    at : (i : ℕ) → Dec (i < entryBytes * e) → getD a i 0 ≡ getD a′ i 0
+    at i (yes l) = h i l
+    at i (no d) = x .rest i (omega arith) ∙ sym (y .rest i (omega arith))
+
+-- The same answer and the same marks; and of the amounts all that the promise settles: they are the same past entry e, the same everywhere after a
+-- refusal, and the same everywhere once the first e entries are.
+pub record SameChoice (e : ℕ) (r r′ : Choice) (m m′ a a′ : List ℕ) : Type 0 where
   pub answer : r ≡ r′
   pub marks : m ≡ m′
+  pub long : length a ≡ length a′
+  pub rest : (i : ℕ) → entryBytes * e ≤ i → getD a i 0 ≡ getD a′ i 0
+  pub after-refusal : (x : Refusal) → r ≡ Choice.Refused x → a ≡ a′
+  pub once-equal : ((i : ℕ) → i < entryBytes * e → getD a i 0 ≡ getD a′ i 0) → a ≡ a′
 
 apart : {x : Refusal} {v : Verdict} → v ≡ refused x → v ≡ fine → ⊥
 apart p q = let z : _≡_ {A = ℕ} 0 1 = cc in omega arith
 
-pub chooser-one : {n e : ℕ} {groups links marks amounts : List ℕ} {r r′ : Choice} {m m′ a a′ : List ℕ} → ChooserSays n e groups links marks amounts r m a → ChooserSays n e groups links marks amounts r′ m′ a′ → SameChoice r r′ m m′
+pub chooser-one :
+    {n e : ℕ} {groups links marks amounts : List ℕ} {r r′ : Choice} {m m′ a a′ : List ℕ} → ChooserSays n e groups links marks amounts r m a
+    → ChooserSays n e groups links marks amounts r′ m′ a′ → SameChoice e r r′ m m′ a a′
+unfolding surveyAt
 chooser-one {n} {e} {groups} {links} {marks} {amounts} {r} {r′} {m} {m′} {a} {a′} x y =
     at r r′ (answers-one (chooserFaults n e groups links marks amounts) (x .verdict) (y .verdict)) (x .lists) (y .lists)
   where
     s : Survey
     s = surveyOf n e groups links
 
-    at : (r r′ : Choice) → choiceVerdict r ≡ choiceVerdict r′ → ChosenLists s marks amounts r m a → ChosenLists s marks amounts r′ m′ a′ → SameChoice r r′ m m′
-    at (Choice.Refused u) (Choice.Refused v) q p o = record { answer = cc; marks = p .0 ∙ sym (o .0) }
+    at : (r r′ : Choice) → choiceVerdict r ≡ choiceVerdict r′ → ChosenLists s marks amounts r m a → ChosenLists s marks amounts r′ m′ a′ → SameChoice e r r′ m m′ a a′
+    at (Choice.Refused u) (Choice.Refused v) q p o =
+        let same : a ≡ a′ = p .1 ∙ sym (o .1) in
+        record {
+          answer = cc;
+          marks = p .0 ∙ sym (o .0);
+          long = ap length same;
+          rest = λ i l. ap (λ (x : List ℕ). getD x i 0) same;
+          after-refusal = λ x z. same;
+          once-equal = λ h. same;
+        }
     at (Choice.Refused u) (Choice.Chosen k) q p o = absurd (apart refl q)
     at (Choice.Chosen k) (Choice.Refused v) q p o = absurd (apart q refl)
     at (Choice.Chosen k) (Choice.Chosen j) q p o =
         record {
           answer = ap (λ (i : ℕ). Choice.Chosen i) (rounds-one (p .counted) (o .counted) same-refl .0);
           marks = marked-one (p .marked) (o .marked) (pick-one (p .pick) (o .pick));
+          long = p .put .long ∙ sym (o .put .long);
+          rest = λ i l. p .put .rest i l ∙ sym (o .put .rest i l);
+          after-refusal = λ x z. let w : _≡_ {A = ℕ} 0 1 = cc in absurd (omega arith);
+          once-equal = amounts-one (p .put) (o .put);
         }
 
 -- two judgements that the checker's promise allows are equal

@@ -11,10 +11,10 @@ use Rattle.survey.specs.Rounds.{Weights, weights}
 use Rattle.survey.specs.Balance.{Amounts, credit, debit, Settled, LargestSettled}
 use Rattle.survey.specs.Words.{markedSet}
 use Rattle.survey.specs.Faults.{LeftOut, listFaults, claimFaults}
-use Rattle.survey.proofs.Reaching.{Inside, hasCycle, has-cycle, no-cycle}
+use Rattle.survey.specs.Sound.{Inside}
+use Rattle.survey.proofs.Reaching.{hasCycle, has-cycle, no-cycle}
 use Rattle.survey.proofs.SameSets.{settled-same}
-use Rattle.survey.proofs.Deciding.{Decides, told-iff, holds-true, fails-false, both, either, denied, implied, is-in, is-out}
-use Rattle.survey.proofs.Deciding.{less, at-most, equal, allBelow, all-below}
+use Rattle.survey.proofs.Deciding.{Decides, told-iff, holds-true, fails-false, both, either, denied, implied, is-in, is-out, less, at-most, equal, allBelow, all-below}
 use Rattle.survey.proofs.AllSets.{anySet, any-set}
 use Rattle.survey.proofs.SetTests.{eligibleTest, eligible-told}
 use Rattle.survey.proofs.ComputedVerdicts.{RowsTold, noRow, row}

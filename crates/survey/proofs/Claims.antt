@@ -11,7 +11,7 @@ use Rattle.survey.specs.Balance.{Amounts, BalanceAbove0, LargestSettled,
 use Rattle.survey.specs.Words.{markedSet}
 use Rattle.survey.specs.Refusals.{Clear, AllClear, fine, Answers}
 use Rattle.survey.specs.Faults.{notClosed, nothingDead, balanceAbove, notLargest, claimFaults}
-use Rattle.survey.proofs.Reaching.{Inside}
+use Rattle.survey.specs.Sound.{Inside}
 use Rattle.survey.proofs.Totals.{by-test, not-both}
 use Rattle.survey.proofs.SameSets.{contains-both, largest-settled-same}
 use Rattle.survey.proofs.BalanceRule.{claimed-within, accepted-pick}

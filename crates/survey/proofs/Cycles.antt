@@ -6,7 +6,8 @@ use mathlib.Core.Logic.{_↔_, ⊎-elim}
 use native.Mathlib.Omega.{arith}
 use Rattle.survey.specs.Survey.{Survey, ComesTo, one, more, Cycle}
 use Rattle.survey.specs.Sets.{Set, In, sum, only}
-use Rattle.survey.proofs.Reaching.{Inside, via, via-comes, comes-via, cycle-decided}
+use Rattle.survey.specs.Sound.{Inside}
+use Rattle.survey.proofs.Reaching.{via, via-comes, comes-via, cycle-decided}
 use Rattle.survey.proofs.SumOrder.{sum-lt, sum-at-most}
 
 -- Numbers for the groups that rise along each link.

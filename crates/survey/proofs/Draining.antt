@@ -8,25 +8,11 @@ use borrow.Author.Tests.{not-true, not-false}
 use Rattle.survey.specs.Survey.{Survey}
 use Rattle.survey.specs.Sets.{Set, In, Out, Closed, Eligible, Contains, total, outside}
 use Rattle.survey.specs.Rounds.{Weights, WeighsAtMost, Greatest, Heaviest, totalPlus, totalMinus}
-use Rattle.survey.specs.Balance.{Amounts, credit, debit, Settled, LargestSettled}
-use Rattle.survey.proofs.Reaching.{Inside}
+use Rattle.survey.specs.Balance.{Amounts, credit, debit, excess, lack, Settled, LargestSettled}
+use Rattle.survey.specs.Sound.{Inside}
+use Rattle.survey.specs.Draining.{Obeys, HoldsLacks, Drains}
 use Rattle.survey.proofs.Totals.{total-le, total-zero, member-le, by-test, not-both}
-use Rattle.survey.proofs.BalanceLaw.{leaving, excess, lack, leaves-none, none-leaves, balance-law}
-
--- By a link (p, q), q pays p: whatever the amount, so where p drains q does; and it takes back what it paid, so where q drains and the
--- link has an amount, p does.
-pub record Obeys (s : Survey) (a : Amounts) (T : Set) : Type 0 where
-  pub forth : (k : ℕ) → k < s .e → In T (s .link k .from) → In T (s .link k .to)
-  pub back : (k : ℕ) → k < s .e → 0 < a k → In T (s .link k .to) → In T (s .link k .from)
-
--- every group whose balance is below 0 is in the set
-pub record HoldsLacks (s : Survey) (w : Weights) (a : Amounts) (T : Set) : Type 0 where
-  pub holds : (g : ℕ) → g < s .n → credit s w a g < debit s w a g → In T g
-
-pub record Drains (s : Survey) (w : Weights) (a : Amounts) (T : Set) : Type 0 where
-  pub obeys : Obeys s a T
-  pub lacks : HoldsLacks s w a T
-  pub least : (U : Set) → Obeys s a U → HoldsLacks s w a U → Contains s U T
+use Rattle.survey.proofs.BalanceLaw.{leaving, leaves-none, none-leaves, balance-law}
 
 -- out of the outside is in, and the other way round
 pub out-in : {t : Bool} → not t ≡ false → t ≡ true

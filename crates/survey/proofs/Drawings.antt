@@ -9,9 +9,12 @@ use Rattle.survey.specs.Survey.{Survey}
 use Rattle.survey.specs.Sets.{Set, Same, Closed, allGroups, sum, total, D, L}
 use Rattle.survey.specs.Balance.{gets, pays}
 use Rattle.survey.specs.Faults.{listFaults, claimFaults}
-use Rattle.survey.specs.Drawings.{setOf, amountsIn, Drawing, picks, sums, rounds, claim, Holds, drawings, f2, Row, table1, RowHolds}
-use Rattle.survey.proofs.Reaching.{Inside, somewhere, anyLink, via, hasCycle}
+use Rattle.survey.specs.Refusals.{fine}
+use Rattle.survey.specs.Drawings.{setOf, amountsIn, Drawing, admits, picks, sums, rounds, claim, Holds, drawings, f2, Row, table1, RowHolds}
+use Rattle.survey.specs.Sound.{Inside}
+use Rattle.survey.proofs.Reaching.{somewhere, anyLink, via, hasCycle}
 use Rattle.survey.proofs.SameSets.{same-trans, closed-same, same-sym}
+use Rattle.survey.proofs.Verdicts.{fine-clear, clear-fine}
 use Rattle.survey.proofs.Deciding.{Decides, told-yes, told-no, told-iff, both, either, implied, equal, allBelow}
 use Rattle.survey.proofs.AllSets.{findFrom, findSet, anySet, everySet, every-set}
 use Rattle.survey.proofs.SetTests.{insideTest, inside-told, containsTest, sameTest, same-told, closedTest, closed-told, eligibleTest}
@@ -63,6 +66,7 @@ module _ {A : Type 0} {P Q : A → Type 0} (f : (x : A) → P x → Q x) where
 -- ---- what a drawing says
 
 abbrev pub surveyDrawn : Drawing → Survey
+surveyDrawn (admits s) = s
 surveyDrawn (picks s groups) = s
 surveyDrawn (sums s groups dead live) = s
 surveyDrawn (rounds s k groups) = s
@@ -73,6 +77,7 @@ abbrev pub Fit : Drawing → Type 0
 Fit d = Inside (surveyDrawn d)
 
 unfoldable pub saysTest : Drawing → Bool
+saysTest (admits s) = verdictTest (verdictOf (listFaults s) (surveyTests s)) fine
 saysTest (picks s groups) = pickTest s (setOf groups)
 saysTest (sums s groups dead live) = eqb (D s (setOf groups)) dead && eqb (L s (setOf groups)) live
 saysTest (rounds s k groups) = roundsTest s k allGroups (setOf groups)
@@ -81,6 +86,8 @@ saysTest (claim s marks amounts v) =
 
 pub says-told : (d : Drawing) → Fit d → Decides (Holds d) (saysTest d)
 unfolding saysTest
+says-told (admits s) i =
+    told-iff (λ a. record { clear = fine-clear (listFaults s) a }) (λ x. clear-fine (listFaults s) (x .clear)) (answers-told (survey-rows-told i) fine)
 says-told (picks s groups) i = pick-told i (setOf groups)
 says-told (sums s groups dead live) i = both (equal (D s (setOf groups)) dead) (λ z. equal (L s (setOf groups)) live)
 says-told (rounds s k groups) i = rounds-told i k allGroups (setOf groups)

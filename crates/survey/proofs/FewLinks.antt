@@ -15,7 +15,7 @@ use Rattle.survey.proofs.SumOrder.{before-or-last, sum-le}
 use Rattle.survey.proofs.Sums.{sum-cong, sum-add, sum-mul, sum-zero}
 use Rattle.survey.proofs.Totals.{by-test}
 use Rattle.survey.proofs.Eligible.{first-in, second-in}
-use Rattle.survey.proofs.Admitted.{Sound}
+use Rattle.survey.specs.Sound.{Sound}
 
 ascends-trans : {a b c : Link} → Ascends a b → Ascends b c → Ascends a c
 ascends-trans (inl x) (inl y) = inl (omega arith)

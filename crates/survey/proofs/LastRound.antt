@@ -6,14 +6,14 @@ use mathlib.Core.Path.{_≡_, refl, sym, subst}
 use Rattle.survey.specs.Survey.{Survey}
 use Rattle.survey.specs.Sets.{Set, In, Eligible, Contains, Same, allGroups, outside, total, deadOf, costOf, D, L}
 use Rattle.survey.specs.Rounds.{Weights, weights, WeighsZero, Heaviest, Rounds, last, more, RoundsOf}
-use Rattle.survey.specs.Balance.{Amounts, credit, debit, LargestSettled, Accepted}
-use Rattle.survey.proofs.Reaching.{Inside}
+use Rattle.survey.specs.Balance.{Amounts, credit, debit, LargestSettled, Accepted, excess}
+use Rattle.survey.specs.Sound.{Inside}
 use Rattle.survey.proofs.Totals.{by-test, member-le}
 use Rattle.survey.proofs.SameSets.{contains-both, eligible-same, same-sym, total-same, weights-same, rounds-start-same}
 use Rattle.survey.proofs.Eligible.{eligible-all}
-use Rattle.survey.proofs.BalanceLaw.{excess}
 use Rattle.survey.proofs.BalanceRule.{weighs-plus, weighs-minus}
-use Rattle.survey.proofs.Draining.{Drains, drained-settled, drained-heaviest, weighs, outside-in}
+use Rattle.survey.specs.Draining.{Drains}
+use Rattle.survey.proofs.Draining.{drained-settled, drained-heaviest, weighs, outside-in}
 use Rattle.survey.proofs.Rounds.{more-dead, nested, last-contains, last-pick, size, same-size}
 
 -- The sets that are the current one in some round: all groups, and each heaviest set that weighs more than 0.

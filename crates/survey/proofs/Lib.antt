@@ -27,6 +27,7 @@ pub mod Small
 pub mod Admitted
 pub mod FewLinks
 pub mod GivenSurvey
+pub mod Standing
 pub mod SmallAnswers
 pub mod ReaderOne
 -- The drawings, decided by tests that compute.

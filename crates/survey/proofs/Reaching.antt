@@ -7,12 +7,8 @@ use native.Mathlib.Omega.{arith}
 use lib.Dec.{eqb}
 use borrow.Author.Tests.{eqb-true, eq-eqb}
 use Rattle.survey.specs.Survey.{Survey, ComesTo, one, more, Cycle}
+use Rattle.survey.specs.Sound.{Inside}
 use Rattle.survey.proofs.SumOrder.{before-or-last}
-
--- Both ends of each link are groups of the survey.
-pub record Inside (s : Survey) : Type 0 where
-  pub from : (k : ℕ) → k < s .e → s .link k .from < s .n
-  pub to : (k : ℕ) → k < s .e → s .link k .to < s .n
 
 -- ---- one of two tests, and both
 

@@ -8,8 +8,8 @@ use lib.ListN.{length, getD}
 use lib.Seq.{ext-getD}
 use Rattle.survey.specs.declared.answers.Reading.{Reading}
 use Rattle.survey.specs.declared.answers.Refusal.{Refusal}
+use Rattle.survey.specs.declared.stands.Stand.{Stand}
 use Rattle.survey.specs.Limits.{entryBytes}
-use Rattle.survey.specs.Words.{Stand}
 use Rattle.survey.specs.Refusals.{Verdict, fine, refused}
 use Rattle.survey.specs.Faults.{readerFaults}
 use Rattle.survey.specs.Answers.{readingVerdict}

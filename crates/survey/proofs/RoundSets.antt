@@ -6,11 +6,11 @@ use mathlib.Core.Bool.{Bool, true, false, not}
 use Rattle.survey.specs.Survey.{Survey}
 use Rattle.survey.specs.Sets.{Set, In, Out, allGroups, outside, total, D}
 use Rattle.survey.specs.Rounds.{Weights, weights, totalPlus, totalMinus, WeighsZero}
-use Rattle.survey.specs.Balance.{Amounts, credit, debit, Accepted}
-use Rattle.survey.proofs.Reaching.{Inside}
+use Rattle.survey.specs.Balance.{Amounts, credit, debit, Accepted, excess}
+use Rattle.survey.specs.Sound.{Inside}
 use Rattle.survey.proofs.Totals.{by-test, total-zero, member-le}
-use Rattle.survey.proofs.BalanceLaw.{excess}
-use Rattle.survey.proofs.Draining.{Drains, weighs, outside-in}
+use Rattle.survey.specs.Draining.{Drains}
+use Rattle.survey.proofs.Draining.{weighs, outside-in}
 use Rattle.survey.proofs.LastRound.{Current, last-accepted}
 
 -- outside of the outside

@@ -6,8 +6,8 @@ use lib.Dec.{eqb}
 use Rattle.survey.specs.Survey.{Survey}
 use Rattle.survey.specs.Sets.{Set, Same, only}
 use Rattle.survey.specs.Rounds.{Weights, weights}
-use Rattle.survey.specs.Balance.{Amounts, gets, pays, Settled, LargestSettled, BalanceAbove0, Accepted}
-use Rattle.survey.proofs.Reaching.{Inside}
+use Rattle.survey.specs.Balance.{Amounts, gets, pays, excess, lack, Settled, LargestSettled, BalanceAbove0, Accepted}
+use Rattle.survey.specs.Sound.{Inside}
 use Rattle.survey.proofs.Sums.{sum-cong}
 use Rattle.survey.proofs.SameSets.{candidate-same, weights-same, largest-settled-same}
 
@@ -26,6 +26,12 @@ module _ {s : Survey} {a b : Amounts} (e : SameAmounts s a b) where
   pays-same : (g : ℕ) → pays s a g ≡ pays s b g
   unfolding pays
   pays-same g = sum-cong (s .e) _ _ (λ k l. ap (only (eqb (s .link k .to) g)) (e .at k l))
+
+  pub excess-same : (w : Weights) (g : ℕ) → excess s w a g ≡ excess s w b g
+  excess-same w g = rw (gets-same g, pays-same g)
+
+  pub lack-same : (w : Weights) (g : ℕ) → lack s w a g ≡ lack s w b g
+  lack-same w g = rw (gets-same g, pays-same g)
 
   above-amounts : (w : Weights) (g : ℕ) → BalanceAbove0 s w b g → BalanceAbove0 s w a g
   above-amounts w g h = omega (arith, gets-same g, pays-same g)

@@ -8,7 +8,7 @@ use Rattle.survey.specs.Sets.{Set, Contains, Same, Closed, Eligible, sum
 use Rattle.survey.specs.Pick.{Candidate, BetterSet, Best, IsPick}
 use Rattle.survey.specs.Rounds.{Weights, weights, WeighsAtMost, WeighsZero, Greatest, Heaviest, Rounds, last, more}
 use Rattle.survey.specs.Balance.{Amounts, Settled, LargestSettled}
-use Rattle.survey.proofs.Reaching.{Inside}
+use Rattle.survey.specs.Sound.{Inside}
 use Rattle.survey.proofs.Sums.{sum-cong}
 
 pub same-refl : {s : Survey} {A : Set} → Same s A A

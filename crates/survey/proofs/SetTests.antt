@@ -11,7 +11,7 @@ use Rattle.survey.specs.Survey.{Survey}
 use Rattle.survey.specs.Sets.{Set, Contains, Same, Closed, Eligible, D, L}
 use Rattle.survey.specs.Pick.{Candidate, BetterSet, Best, IsPick}
 use Rattle.survey.specs.Rounds.{Weights, weights, totalPlus, totalMinus, WeighsZero, Greatest, Heaviest, Rounds, last, more}
-use Rattle.survey.proofs.Reaching.{Inside}
+use Rattle.survey.specs.Sound.{Inside}
 use Rattle.survey.proofs.SameSets.{same-refl, same-sym, contains-both, contains-same, zero-same, weighs-same, better-same}
 use Rattle.survey.proofs.SameSets.{eligible-same, candidate-same, best-same, greatest-same, heaviest-same, rounds-start-same}
 use Rattle.survey.proofs.Unique.{heaviest-one, rounds-one}

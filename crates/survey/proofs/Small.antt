@@ -1,4 +1,4 @@
--- How large a refusal's number and place can be, so that one number of 64 bits holds them.
+-- How large a refusal's number and place can be, so that one number of 64 bits holds them, and that no refusal's number is 0.
 use Prim.Native.Nat.{ℕ, _+_, _*_, _/_, _%_, _≤_, _<_, zero-le}
 use native.Mathlib.Nat.{le-refl}
 use native.Mathlib.Omega.{arith}
@@ -32,14 +32,16 @@ look-on f fs {v} c a = at (look f fs a)
     at (inl g) = absurd (c .none (g .lowestPlace) (g .lowest .below) (g .lowest .fault))
     at (inr r) = r .1
 
--- a refusal whose number fits a byte and whose place is below b
+-- a refusal whose number fits a byte and is not 0, and whose place is below b
 pub record SmallBy (b : ℕ) (r : Refusal) : Type 0 where
   pub number : r .number < 256
+  pub above : 0 < r .number
   pub place : placeNumber (r .place) < b
 
 -- a fault with at most b places
 pub record FewPlaces (b : ℕ) (f : Fault) : Type 0 where
   pub number : f .number < 256
+  pub above : 0 < f .number
   pub places : f .places ≤ b
   pub place : (k : ℕ) → placeNumber (f .place k) ≤ k
 
@@ -50,7 +52,7 @@ AllFew b (f ∷ fs) = FewPlaces b f × AllFew b fs
 pub given-small : {b : ℕ} {f : Fault} {r : Refusal} → FewPlaces b f → Given f (refused r) → SmallBy b r
 given-small {b} {f} {r} w g =
     subst (λ (x : Refusal). SmallBy b x) (sym same)
-    (record { number = w .number; place = omega (arith, w .place (g .lowestPlace), g .lowest .below, w .places) })
+    (record { number = w .number; above = w .above; place = omega (arith, w .place (g .lowestPlace), g .lowest .below, w .places) })
   where
     same : r ≡ refusal f (g .lowestPlace)
     same = cc (g .is)
@@ -64,8 +66,8 @@ refused-small {b} (f ∷ fs) {r} w a = at (look f fs a) (λ x. refused-small fs 
     at (inl g) go = given-small (w .0) g
     at (inr c) go = go (c .1)
 
-pub few-whole : {b : ℕ} (number : ℕ) (P : Type 0) → number < 256 → 1 ≤ b → FewPlaces b (whole number P)
-few-whole number P h l = record { number = h; places = l; place = λ k. zero-le }
+pub few-whole : {b : ℕ} (number : ℕ) (P : Type 0) → (0 < number) × (number < 256) → 1 ≤ b → FewPlaces b (whole number P)
+few-whole number P h l = record { number = h .1; above = h .0; places = l; place = λ k. zero-le }
 
 place-at-most : (number k : ℕ) → placeNumber (placeOf number k) ≤ k
 place-at-most number k =
@@ -77,5 +79,5 @@ place-at-most number k =
     at false false true = le-refl k
     at false false false = zero-le
 
-pub few-among : {b : ℕ} (number places : ℕ) (P : ℕ → Type 0) → number < 256 → places ≤ b → FewPlaces b (among number places P)
-few-among number places P h l = record { number = h; places = l; place = place-at-most number }
+pub few-among : {b : ℕ} (number places : ℕ) (P : ℕ → Type 0) → (0 < number) × (number < 256) → places ≤ b → FewPlaces b (among number places P)
+few-among number places P h l = record { number = h .1; above = h .0; places = l; place = place-at-most number }

@@ -28,12 +28,12 @@ placeRoom = 2 ^ 32
 survey-few : (s : Survey) → s .n ≤ placeRoom → s .e ≤ placeRoom → AllFew placeRoom (surveyFaults s)
 unfolding AllFew
 survey-few s hn he = (
-  few-among 8 (s .n) _ (omega arith) hn,
+  few-among 8 (s .n) _ (omega arith, omega arith) hn,
   (
-    few-among 9 (s .e) _ (omega arith) he,
+    few-among 9 (s .e) _ (omega arith, omega arith) he,
     (
-      few-among 10 (s .e) _ (omega arith) he,
-      (few-whole 11 _ (omega arith) (omega arith), (few-whole 12 _ (omega arith) (omega arith), tt)),
+      few-among 10 (s .e) _ (omega arith, omega arith) he,
+      (few-whole 11 _ (omega arith, omega arith) (omega arith), (few-whole 12 _ (omega arith, omega arith) (omega arith), tt)),
     ),
   ),
 )
@@ -41,14 +41,14 @@ survey-few s hn he = (
 claim-few : (s : Survey) (m : List ℕ) (a : Amounts) → s .n ≤ placeRoom → s .e ≤ placeRoom → AllFew placeRoom (claimFaults s m a)
 unfolding AllFew
 claim-few s m a hn he = (
-  few-among 13 (s .n) _ (omega arith) hn,
+  few-among 13 (s .n) _ (omega arith, omega arith) hn,
   (
-    few-among 14 (s .e) _ (omega arith) he,
+    few-among 14 (s .e) _ (omega arith, omega arith) he,
     (
-      few-among 15 (s .e) _ (omega arith) he,
+      few-among 15 (s .e) _ (omega arith, omega arith) he,
       (
-        few-whole 16 _ (omega arith) (omega arith),
-        (few-among 17 (s .n) _ (omega arith) hn, (few-among 18 (s .n) _ (omega arith) hn, tt)),
+        few-whole 16 _ (omega arith, omega arith) (omega arith),
+        (few-among 17 (s .n) _ (omega arith, omega arith) hn, (few-among 18 (s .n) _ (omega arith, omega arith) hn, tt)),
       ),
     ),
   ),
@@ -66,16 +66,16 @@ none-few = tt
 file-rows : (f : List ℕ) → blockCount f ≤ placeRoom → nIn f ≤ placeRoom → eIn f ≤ placeRoom → AllFew placeRoom (after-length f)
 unfolding AllFew
 file-rows f hb hn he = (
-  few-among 3 (blockCount f) _ (omega arith) hb,
+  few-among 3 (blockCount f) _ (omega arith, omega arith) hb,
   (
-    few-among 4 1 _ (omega arith) (omega arith),
+    few-among 4 1 _ (omega arith, omega arith) (omega arith),
     (
-      few-whole 5 _ (omega arith) (omega arith),
+      few-whole 5 _ (omega arith, omega arith) (omega arith),
       (
-        few-whole 6 _ (omega arith) (omega arith),
+        few-whole 6 _ (omega arith, omega arith) (omega arith),
         (
-          few-among 6 (blockCount f) _ (omega arith) hb,
-          (few-among 7 (blockCount f) _ (omega arith) hb, survey-few (surveyIn f) (rw (given-n (nIn f) (eIn f) f _ f _) hn) (rw (given-e (nIn f) (eIn f) f _ f _) he)),
+          few-among 6 (blockCount f) _ (omega arith, omega arith) hb,
+          (few-among 7 (blockCount f) _ (omega arith, omega arith) hb, survey-few (surveyIn f) (rw (given-n (nIn f) (eIn f) f _ f _) hn) (rw (given-e (nIn f) (eIn f) f _ f _) he)),
         ),
       ),
     ),
@@ -84,14 +84,14 @@ file-rows f hb hn he = (
 
 module _ {r : Refusal} where
   -- A look at a fault of place nothing: the refusal is small, or the fault is not there and the answer is the others'.
-  first-whole : (P : Type 0) (number : ℕ) (fs : List Fault) → number < 256 → (Clear (whole number P) → Answers fs (refused r) → SmallBy placeRoom r) → Answers (whole number P ∷ fs) (refused r) → SmallBy placeRoom r
+  first-whole : (P : Type 0) (number : ℕ) (fs : List Fault) → (0 < number) × (number < 256) → (Clear (whole number P) → Answers fs (refused r) → SmallBy placeRoom r) → Answers (whole number P ∷ fs) (refused r) → SmallBy placeRoom r
   first-whole P number fs h go a =
       ⊎-elim (λ g. given-small (few-whole number P h (omega arith)) g) (λ c. go (c .0) (c .1)) (look (whole number P) fs a)
 
   -- 5 and 8 to 12, and whatever comes after: past 5, n and e are in their range
   list-small : (s : Survey) (more : List Fault) → (s .n ≤ placeRoom → s .e ≤ placeRoom → AllFew placeRoom more) → Answers (listFaults s ++ more) (refused r) → SmallBy placeRoom r
   list-small s more few a =
-      first-whole ((s .n < 1) ⊎ ((groupLimit < s .n) ⊎ (linkLimit < s .e))) 5 (surveyFaults s ++ more) (omega arith)
+      first-whole ((s .n < 1) ⊎ ((groupLimit < s .n) ⊎ (linkLimit < s .e))) 5 (surveyFaults s ++ more) (omega arith, omega arith)
       (λ c. refused-small (surveyFaults s ++ more) (few-more (surveyFaults s) more (survey-few s (groups c) (links c)) (few (groups c) (links c))))
       a
     where
@@ -109,7 +109,7 @@ module _ {r : Refusal} where
 
   pub chooser-small : (n e : ℕ) (g l m a : List ℕ) → Answers (chooserFaults n e g l m a) (refused r) → SmallBy placeRoom r
   chooser-small n e g l m a x =
-      first-whole (OneShort (callLists g l m a)) 1 (listFaults (surveyOf n e g l)) (omega arith)
+      first-whole (OneShort (callLists g l m a)) 1 (listFaults (surveyOf n e g l)) (omega arith, omega arith)
       (λ c y. list-small (surveyOf n e g l) [] (λ h k. none-few) (at (listFaults (surveyOf n e g l)) y))
       x
     where
@@ -118,7 +118,7 @@ module _ {r : Refusal} where
 
   pub checker-small : (n e : ℕ) (g l m a : List ℕ) → Answers (checkerFaults n e g l m a) (refused r) → SmallBy placeRoom r
   checker-small n e g l m a x =
-      first-whole (OneShort (callLists g l m a)) 1 (listFaults s ++ claimFaults s m (amountsOf a)) (omega arith)
+      first-whole (OneShort (callLists g l m a)) 1 (listFaults s ++ claimFaults s m (amountsOf a)) (omega arith, omega arith)
       (λ c y. list-small s (claimFaults s m (amountsOf a)) (claim-few s m (amountsOf a)) y)
       x
     where
@@ -128,7 +128,7 @@ module _ {r : Refusal} where
   -- of a file whose words are words: 2^32 is above any n and e that one can hold
   pub reader-small : (f g l : List ℕ) → nIn f ≤ placeRoom → eIn f ≤ placeRoom → Answers (readerFaults f g l) (refused r) → SmallBy placeRoom r
   reader-small f g l hn he x =
-      first-whole _ 1 (fileFaults f) (omega arith) (λ c y. first-whole _ 2 (after-length f) (omega arith) (λ d z. refused-small (after-length f) (file-few d) z) y) x
+      first-whole _ 1 (fileFaults f) (omega arith, omega arith) (λ c y. first-whole _ 2 (after-length f) (omega arith, omega arith) (λ d z. refused-small (after-length f) (file-few d) z) y) x
     where
       blocks : Clear (badLength f) → blockCount f ≤ placeRoom
       blocks c = at (λ h. c .none 0 (omega arith) (inr (inr h)))

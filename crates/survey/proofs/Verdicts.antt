@@ -73,6 +73,10 @@ answers-one (f ∷ fs) {v} {v′} a b = at (a .first) (b .first) (λ x y. answer
     at (inr x) (inl y) go = absurd (clear-not-given (x .0) y)
     at (inr x) (inr y) go = go (x .1) (y .1)
 
+-- Where nothing is at fault, nothing is refused.
+pub none-refused : (fs : List Fault) {v : Verdict} {x : Refusal} → AllClear fs → Answers fs v → v ≡ refused x → ⊥
+none-refused fs c a e = fine-not-refused (answers-one fs a (clear-fine fs c)) e
+
 -- A part looks at its own faults first, and at the others' only when it finds none.
 pub early : (fs gs : List Fault) {r : Refusal} → Answers fs (refused r) → Answers (fs ++ gs) (refused r)
 unfolding First

@@ -1,5 +1,5 @@
 -- Specification 7, "Balance rule": claims, balances, settled sets, and what is accepted.
-use Prim.Native.Nat.{ℕ, _+_, _<_}
+use Prim.Native.Nat.{ℕ, _+_, _-_, _<_}
 use mathlib.Core.Path.{_≡_}
 use lib.Dec.{eqb}
 use Rattle.survey.specs.Survey.{Survey}
@@ -27,7 +27,15 @@ credit s w a g = w .plus g + gets s a g
 abbrev pub debit : Survey → Weights → Amounts → ℕ → ℕ
 debit s w a g = w .minus g + pays s a g
 
--- 7.2: the balance, which is credit less debit, is above 0
+-- 7.2: how much the balance, which is credit less debit, is above 0
+abbrev pub excess : Survey → Weights → Amounts → ℕ → ℕ
+excess s w a g = credit s w a g - debit s w a g
+
+-- 7.2: how much it is below 0
+abbrev pub lack : Survey → Weights → Amounts → ℕ → ℕ
+lack s w a g = debit s w a g - credit s w a g
+
+-- 7.2: the balance is above 0
 abbrev pub BalanceAbove0 : Survey → Weights → Amounts → ℕ → Type 0
 BalanceAbove0 s w a g = debit s w a g < credit s w a g
 

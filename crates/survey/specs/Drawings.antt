@@ -13,7 +13,7 @@ use Rattle.survey.specs.Sets.{Set, Closed, Same, D, L}
 use Rattle.survey.specs.Pick.{IsPick}
 use Rattle.survey.specs.Rounds.{RoundsOf}
 use Rattle.survey.specs.Refusals.{Verdict, fine, refused, Answers}
-use Rattle.survey.specs.Faults.{listFaults, claimFaults}
+use Rattle.survey.specs.Faults.{listFaults, claimFaults, Admitted}
 
 -- a group by its counts, written dead:live
 abbrev pub counts : ℕ → ℕ → survey.Group
@@ -39,6 +39,8 @@ amountsIn a k = getD a k 0
 
 -- 15.2: what a case says of its survey.
 pub data Drawing : Type 0 where
+  -- it is admitted
+  admits : Survey → Drawing
   -- the pick is the set of these groups
   picks : Survey → List ℕ → Drawing
   -- these groups have so many dead, so many live
@@ -50,6 +52,7 @@ pub data Drawing : Type 0 where
 
 -- 15.2: what that means in the words of the definitions
 abbrev pub Holds : Drawing → Type 0
+Holds (admits s) = Admitted s
 Holds (picks s groups) = IsPick s (setOf groups)
 Holds (sums s groups dead live) = (D s (setOf groups) ≡ dead) × (L s (setOf groups) ≡ live)
 Holds (rounds s k groups) = RoundsOf s k (setOf groups)
@@ -114,6 +117,13 @@ drawings =
     ∷ picks withEmptyGroup (0 ∷ 2 ∷ [])
     -- one group
     ∷ picks oneGroup (0 ∷ [])
+    -- and each of these surveys is admitted
+    ∷ admits f2
+    ∷ admits f7
+    ∷ admits twoAlike
+    ∷ admits nothingLive
+    ∷ admits withEmptyGroup
+    ∷ admits oneGroup
     ∷ []
 
 -- 15.2: a row of table 1 is a closed set with its D and its L.

@@ -12,3 +12,6 @@ pub mod Faults
 pub mod Answers
 pub mod Promises
 pub mod Drawings
+-- What the specification does not have and contracts cite.
+pub mod Sound
+pub mod Draining

@@ -1,5 +1,5 @@
 -- Specification 5, "Pick": candidates and the pick.
-use Prim.Native.Nat.{ℕ, _*_, _<_}
+use Prim.Native.Nat.{_*_, _<_}
 use Rattle.survey.specs.Survey.{Survey}
 use Rattle.survey.specs.Sets.{Set, Eligible, Contains, D, L}
 
@@ -8,13 +8,9 @@ pub record Candidate (s : Survey) (S : Set) : Type 0 where
   pub eligible : Eligible s S
   pub dead : 0 < D s S
 
--- 5.2: A is better than B if A's live objects times B's dead ones are fewer than B's live objects times A's dead ones. On the four numbers:
-abbrev pub Better : ℕ → ℕ → ℕ → ℕ → Type 0
-Better dA lA dB lB = lA * dB < lB * dA
-
--- 5.2: the same of two sets
+-- 5.2: A is better than B if A's live objects times B's dead ones are fewer than B's live objects times A's dead ones.
 abbrev pub BetterSet : Survey → Set → Set → Type 0
-BetterSet s A B = Better (D s A) (L s A) (D s B) (L s B)
+BetterSet s A B = L s A * D s B < L s B * D s A
 
 -- 5.3: a candidate is best if there is no better one.
 pub record Best (s : Survey) (S : Set) : Type 0 where

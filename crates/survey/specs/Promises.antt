@@ -8,12 +8,13 @@ use lib.ListN.{length, getD}
 use Rattle.survey.specs.declared.answers.Reading.{Reading}
 use Rattle.survey.specs.declared.answers.Choice.{Choice}
 use Rattle.survey.specs.declared.answers.Judgement.{Judgement}
+use Rattle.survey.specs.declared.stands.Stand.{Stand}
 use Rattle.survey.specs.Limits.{entryBytes, amountLimit}
 use Rattle.survey.specs.Survey.{Survey}
 use Rattle.survey.specs.Pick.{IsPick}
 use Rattle.survey.specs.Rounds.{RoundsOf}
 use Rattle.survey.specs.Balance.{Accepted}
-use Rattle.survey.specs.Words.{Stand, standsAt, surveyOf, markedSet, amountsOf}
+use Rattle.survey.specs.Words.{standsAt, surveyOf, markedSet, amountsOf}
 use Rattle.survey.specs.SurveyFile.{nIn, eIn, firstGroupBlock, firstLinkBlock, inBlocks}
 use Rattle.survey.specs.Refusals.{Answers}
 use Rattle.survey.specs.Faults.{readerFaults, chooserFaults, checkerFaults}

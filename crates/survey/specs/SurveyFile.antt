@@ -5,9 +5,11 @@ use mathlib.Core.Bool.{Bool, cond}
 use mathlib.Core.List.{List}
 use lib.ListN.{length}
 use lib.Dec.{leb, eqb}
-use Rattle.survey.specs.Limits.{groupLimit, linkLimit, blockBytes, contentWords, blockPairs, entryBytes}
+use Rattle.survey.specs.declared.stands.Stand.{Stand}
+use Rattle.survey.specs.declared.stands.Stand.the-variants.{Blocks}
+use Rattle.survey.specs.Limits.{groupLimit, linkLimit, blockBytes, contentWords, blockPairs}
 use Rattle.survey.specs.Survey.{Survey}
-use Rattle.survey.specs.Words.{word, Stand, surveyAt}
+use Rattle.survey.specs.Words.{word, surveyAt}
 
 -- 9.1: a file is made of blocks.
 abbrev pub blockCount : List ℕ → ℕ
@@ -80,11 +82,13 @@ fileLimit = blockBytes * blocksNeeded groupLimit linkLimit
 abbrev pub kindOf : ℕ → ℕ → ℕ
 kindOf n b = cond (eqb b 0) 1 (cond (leb (firstLinkBlock n) b) 3 2)
 
--- 9.5: pairs stand from word 2 on. So many words of a block are in use where k pairs are left for it and those after it.
+-- 9.6: pairs stand from word 2 on. So many words of a block are in use where k pairs are left for it and those after it.
 abbrev pub pairWords : ℕ → ℕ
 pairWords k = 2 + 2 * k
 
--- 9.6: in block b the words from this one on have no use, in block 0 after n and e, elsewhere after the last pair.
+-- 9.6: in block b the words from this one on have no use, in block 0 after n and e, elsewhere after the last pair. A block that is not the last of
+-- its kind is full, and more pairs are left for it and those after it than it has room for: there this passes 126, and no word of the block is unused, since
+-- `UnusedAreZero` looks at the words from here up to 126 alone.
 abbrev pub usedWords : ℕ → ℕ → ℕ → ℕ
 usedWords n e b =
     cond (eqb b 0) 4
@@ -94,9 +98,9 @@ usedWords n e b =
 pub record UnusedAreZero (f : List ℕ) (n e b : ℕ) : Type 0 where
   pub at : (w : ℕ) → usedWords n e b ≤ w → w < contentWords → blockWord f b w ≡ 0
 
--- 9.5: pair k of a kind whose first block is this one stands in block first + k / 62, in two words from word 2 + 2·(k % 62) on.
+-- 9.5: the pairs of a kind, in its blocks from block first on
 abbrev pub inBlocks : ℕ → Stand
-inBlocks first = record { base = blockBytes * first + entryBytes; gap = blockBytes - entryBytes * blockPairs }
+inBlocks first = Blocks first
 
 -- 9.4 and 8.5: the survey that a file holds
 abbrev pub surveyIn : List ℕ → Survey

@@ -1,11 +1,13 @@
 -- Specification 8, "Numbers in bytes": words, entries and where they stand, surveys and claims given as lists.
-use Prim.Native.Nat.{ℕ, _+_, _*_, _/_, _<_}
+use Prim.Native.Nat.{ℕ, _+_, _*_, _/_, _%_, _<_}
 use mathlib.Core.Path.{_≡_}
 use mathlib.Core.Bool.{Bool, cond}
 use mathlib.Core.List.{List}
 use lib.ListN.{length, getD}
 use lib.Dec.{ltb, eqb}
-use Rattle.survey.specs.Limits.{entryBytes, blockPairs}
+use Rattle.survey.specs.declared.stands.Stand.{Stand}
+use Rattle.survey.specs.declared.stands.Stand.the-variants.{Lent, Blocks}
+use Rattle.survey.specs.Limits.{entryBytes, blockBytes, blockPairs}
 use Rattle.survey.specs.Survey.{Group, Link, Survey}
 use Rattle.survey.specs.Sets.{Set}
 use Rattle.survey.specs.Balance.{Amounts}
@@ -18,19 +20,23 @@ word l i = getD l i 0 + 256 * getD l (i + 1) 0 + 65_536 * getD l (i + 2) 0 + 16_
 abbrev pub longWord : List ℕ → ℕ → ℕ
 longWord l i = word l i + 4_294_967_296 * word l (i + 4)
 
--- 8.3: where the entries of a list stand. In a lent list entry k begins at byte 8·k; in the blocks of a file (9.5), 62 to a block, the next block
--- stands 16 bytes further on. So everywhere: at base + 8·k + gap·(k / 62).
-pub record Stand : Type 0 where
-  pub base : ℕ
-  pub gap : ℕ
+-- 9.5: the pairs of a file stand in its blocks, 62 to a block, each block's from word 2 on. Of a kind whose first block is this one, pair k stands in block ..
+abbrev pub blockOfPair : ℕ → ℕ → ℕ
+blockOfPair first k = first + k / blockPairs
 
--- 8.3: where entry k stands
+-- 9.5: .. and in it this is the first of its two words.
+abbrev pub wordOfPair : ℕ → ℕ
+wordOfPair k = 2 + 2 * (k % blockPairs)
+
+-- 8.3: the byte that entry k begins at. In a lent list entries stand one after the other; in a file they stand as above, and a word is 4 bytes. Word w of
+-- block b is defined in `SurveyFile`, and what a pair's two words are there is said in proofs/Standing.
 abbrev pub standsAt : Stand → ℕ → ℕ
-standsAt w k = w .base + entryBytes * k + w .gap * (k / blockPairs)
+standsAt Lent k = entryBytes * k
+standsAt (Blocks first) k = blockBytes * blockOfPair first k + 4 * wordOfPair k
 
 -- 8.3: in a lent list, one after the other
 abbrev pub lent : Stand
-lent = record { base = 0; gap = 0 }
+lent = Lent
 
 -- 8.4: the length of a list is how many entries it has whole.
 abbrev pub entries : List ℕ → ℕ
@@ -43,10 +49,6 @@ groupAt l w k = record { dead = word l (standsAt w k); live = word l (standsAt w
 -- 8.2: a link, its from and then its to
 abbrev pub linkAt : List ℕ → Stand → ℕ → Link
 linkAt l w k = record { from = word l (standsAt w k); to = word l (standsAt w k + 4) }
-
--- 8.2: an amount, one long word
-abbrev pub amountAt : List ℕ → Stand → ℕ → ℕ
-amountAt l w k = longWord l (standsAt w k)
 
 -- f up to place n, and z from there on
 abbrev pub upTo {ℓ} : {A : Type ℓ} → ℕ → A → (ℕ → A) → ℕ → A
@@ -72,4 +74,4 @@ markedSet m g = eqb (getD m g 0) 1
 
 -- 8.6: the amount of link k is entry k of its list.
 abbrev pub amountsOf : List ℕ → Amounts
-amountsOf a k = amountAt a lent k
+amountsOf a k = longWord a (standsAt lent k)

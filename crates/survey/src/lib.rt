@@ -1,2 +1,3 @@
 // What the parts answer. The definitions stand in specs/, their laws in proofs/.
 pub mod answers;
+pub mod stands;

@@ -14,15 +14,15 @@ use Rattle.survey.specs.Words.{markedSet}
 use Rattle.survey.specs.Promises.{ChooserSays}
 use Rattle.survey.specs.Drawings.{setOf, Drawing, picks, sums, f2}
 use Rattle.survey.proofs.Totals.{not-both}
-use Rattle.survey.proofs.Reaching.{Inside}
+use Rattle.survey.specs.Sound.{Inside}
 use Rattle.survey.proofs.SameSets.{same-sym, same-refl, same-trans, candidate-same, total-same}
 use Rattle.survey.proofs.Deciding.{Decides, told-iff, both, denied, implied, less, equal, allBelow, all-below}
 use Rattle.survey.proofs.AllSets.{findFrom, findSet, anySet, everySet, every-set}
 use Rattle.survey.proofs.SetTests.{insideTest, inside-told, containsTest, sameTest, same-told, closedTest, eligibleTest, candidateTest, candidate-told, bestTest, pickTest}
 use Rattle.survey.proofs.Drawings.{right, saysTest, allTest, allRight, all-right}
 use Rattle.survey.proofs.Unique.{pick-one}
-use Rattle.useless.proofs.Calls.{Lends}
-use Rattle.useless.proofs.Benched.{uneven, f2-admitted, f2-pick, uneven-admitted}
+use Rattle.drawn.proofs.Calls.{Lends}
+use Rattle.drawn.proofs.Benched.{uneven, f2-admitted, f2-pick, uneven-admitted}
 use Rattle.useless.proofs.Choosers.{marks-only-pick}
 
 -- How many groups a set has. The average of its groups' ratios is their sum over that number.

@@ -23,7 +23,7 @@ use Rattle.survey.proofs.SetTests.{insideTest, inside-told, closedTest, eligibl
 use Rattle.survey.proofs.Verdicts.{answers-one, past}
 use Rattle.survey.proofs.ComputedVerdicts.{lowestBelow, verdictOf, verdictTest, told-append, answers-told}
 use Rattle.survey.proofs.ClaimTests.{settledTest, largestSet, surveyTests, survey-rows-told, claimTests, claim-rows-told}
-use Rattle.useless.proofs.Calls.{Lends, bytesOf}
+use Rattle.drawn.proofs.Calls.{Lends, bytesOf}
 
 -- The table's verdict on the claim of these marks and amounts, computed.
 unfoldable judgedTest : Survey → List ℕ → List ℕ → Verdict → Bool

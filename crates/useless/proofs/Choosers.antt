@@ -19,10 +19,10 @@ use Rattle.survey.proofs.Totals.{not-both}
 use Rattle.survey.proofs.SameSets.{same-refl, pick-same}
 use Rattle.survey.proofs.Admitted.{admitted-sound}
 use Rattle.survey.proofs.Unique.{pick-one, heaviest-one, rounds-one}
-use Rattle.useless.proofs.Calls.{Lends}
+use Rattle.drawn.proofs.Calls.{Lends}
 use Rattle.useless.proofs.NothingSets.{nothing-no-pick, empty-nothing}
 use Rattle.useless.proofs.Owed.{owed}
-use Rattle.useless.proofs.Benched.{f2-admitted, f7-admitted, f2-pick, f2-rounds, f7-pick, f7-rounds, f2-first-round}
+use Rattle.drawn.proofs.Benched.{f2-admitted, f7-admitted, f2-pick, f2-rounds, f7-pick, f7-rounds, f2-first-round}
 
 same-count-as : {j k : ℕ} → Choice.Chosen j ≡ Choice.Chosen k → j ≡ k
 same-count-as e = cc

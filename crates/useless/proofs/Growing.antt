@@ -10,14 +10,14 @@ use Rattle.survey.specs.Pick.{BetterSet, IsPick}
 use Rattle.survey.specs.Words.{markedSet}
 use Rattle.survey.specs.Promises.{ChooserSays}
 use Rattle.survey.specs.Drawings.{setOf, f7}
-use Rattle.survey.proofs.Reaching.{Inside}
+use Rattle.survey.specs.Sound.{Inside}
 use Rattle.survey.proofs.SameSets.{same-refl, same-sym, contains-both, contains-same, eligible-same, better-same}
 use Rattle.survey.proofs.Admitted.{admitted-sound}
 use Rattle.survey.proofs.Deciding.{Decides, told-iff, both, denied, implied, is-in, allBelow, all-below}
 use Rattle.survey.proofs.AllSets.{findFrom, findSet, anySet, everySet, every-set}
 use Rattle.survey.proofs.SetTests.{containsTest, contains-told, closedTest, eligibleTest, eligible-told, candidateTest, candidate-told, better-told}
-use Rattle.useless.proofs.Calls.{Lends}
-use Rattle.useless.proofs.Benched.{f7-admitted}
+use Rattle.drawn.proofs.Calls.{Lends}
+use Rattle.drawn.proofs.Benched.{f7-admitted}
 use Rattle.useless.proofs.Choosers.{marks-only-pick}
 
 -- group g with its ancestors, which are all that leads to it: the least closed set that has g

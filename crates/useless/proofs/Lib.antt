@@ -1,10 +1,7 @@
 -- Specification 15.4 and 15.5: wrong turns and useless programs, each ruled out by the promises.
--- Calls that lend a drawing, what is owed to them, and the drawings.
-pub mod Calls
+-- What is owed to a call, and sets that have nothing.
 pub mod Owed
 pub mod NothingSets
-pub mod Benched
-pub mod Files
 -- Useless programs.
 pub mod Choosers
 pub mod Readers

@@ -11,12 +11,8 @@ use Rattle.survey.specs.Refusals.{Verdict, fine, refused, Fault, AllClear, Answ
 use Rattle.survey.specs.Faults.{listFaults, chooserFaults, Admitted}
 use Rattle.survey.specs.Answers.{choiceVerdict}
 use Rattle.survey.specs.Promises.{Chooses, ChosenLists, ChooserSays}
-use Rattle.survey.proofs.Verdicts.{answers-one, clear-fine}
-use Rattle.useless.proofs.Calls.{Lends}
-
--- Where nothing is at fault, nothing is refused.
-pub none-refused : (fs : List Fault) {v : Verdict} {x : Refusal} → AllClear fs → Answers fs v → v ≡ refused x → ⊥
-none-refused fs {v} c a e = let same : v ≡ fine = answers-one fs a (clear-fine fs c) in let z : _≡_ {A = ℕ} 0 1 = cc in omega arith
+use Rattle.survey.proofs.Verdicts.{none-refused}
+use Rattle.drawn.proofs.Calls.{Lends}
 
 module _ {s : Survey} {groups links marks amounts : List ℕ} (c : Lends s groups links marks amounts) (admitted : Admitted s) where
   call-clear : AllClear (chooserFaults (s .n) (s .e) groups links marks amounts)

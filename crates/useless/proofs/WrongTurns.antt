@@ -23,9 +23,9 @@ use Rattle.survey.proofs.AllSets.{findFrom, findSet, anySet, everySet}
 use Rattle.survey.proofs.SetTests.{insideTest, containsTest, closedTest, eligibleTest, candidateTest, candidate-told, bestTest, pickTest}
 use Rattle.survey.proofs.ClaimTests.{settledTest, settled-told}
 use Rattle.survey.proofs.Drawings.{right, saysTest, allTest, allRight, all-right}
-use Rattle.useless.proofs.Calls.{Lends}
+use Rattle.drawn.proofs.Calls.{Lends}
 use Rattle.useless.proofs.NothingSets.{HasNothing, nothing-no-pick, empty-nothing}
-use Rattle.useless.proofs.Benched.{f2-admitted}
+use Rattle.drawn.proofs.Benched.{f2-admitted}
 use Rattle.useless.proofs.Choosers.{marks-only-pick}
 use Rattle.useless.proofs.Checkers.{always-yes}
 

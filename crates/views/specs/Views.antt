@@ -1,5 +1,4 @@
--- The view of a block: "The reader looks at one block at a time through a view that knows its block number and shows its 126 words; the view is
--- of the lent bytes themselves."
+-- The view of a block: its bytes, as they stand in the file, and its number (Specification 9).
 use Prim.Native.Nat.{ℕ, _+_, _*_, _≤_}
 use mathlib.Core.Path.{_≡_}
 use mathlib.Core.List.{List}

@@ -1,5 +1,4 @@
-// "The check runs two sums modulo 2^32: a begins at 1, b at 0; for each content word in order, a becomes a plus the word, then b becomes b plus
-// the new a. Word 126 holds a, word 127 holds b. Both must agree."
+// A block's check (Specification 9): a sum of its content words and a sum of those sums, both by addition that wraps, held against the block's last two words.
 use crate::view::block_check;
 use crate::view::block_word;
 use std::num::wrapping_add_u32;
@@ -15,7 +14,7 @@ pub struct Sums {
     pub b: u32,
 }
 
-// "a becomes a plus the word, then b becomes b plus the new a"
+// One word further: the word goes into a, and a as it is then into b.
 fn sums_after(s: Sums, x: u32) -> Sums
     ensures { λ r. ⌜ sumsOf r ≡ sumsAfter (sumsOf s) x ⌝ }
 {
@@ -39,7 +38,7 @@ fn block_sums(file: &[u8], b: usize) -> Sums
     s
 }
 
-// "Both must agree."
+// Whether both sums are the ones that the block says.
 pub fn check_agrees(file: &[u8], b: usize) -> bool
     requires { ⌜ Within (now file) b ⌝ }
     ensures { λ r. ⌜ Tells (CheckAgrees (now (file .entry)) b) r ⌝ }

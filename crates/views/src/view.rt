@@ -1,7 +1,6 @@
-// The view of a block: "The reader looks at one block at a time through a view that knows its block number and shows its 126 words; the view is
-// of the lent bytes themselves." No function over a struct that holds a reference is covered by the borrow checker, so these are few and thin,
-// each proved by hand over a covered function on a slice. All other code reads a file's blocks by `block_word`, `block_check` and
-// `block_numbered`, whose parameters are plain.
+// The view of a block (Specification 9): the block's bytes, where they were lent, and its number. No function over a struct that holds a reference is covered
+// by the borrow checker, so these are few and thin, each proved by hand over a covered function on a slice. All other code reads a file by `block_word`,
+// `block_check` and `block_numbered`, whose parameters are plain, entries too (`entries::block_pair`): no word of a file is read past the view.
 use words::word_at;
 ghost use mathlib.Core.Path.{_≡_};
 ghost use Prim.Native.Nat.{_+_, _*_, _≤_, _<_};
@@ -35,7 +34,7 @@ fn word_of(bytes: &[u8], w: usize) -> u32
     word_at(bytes, 4 * w)
 }
 
-// "126 words of content and two of check": check word 0 or 1 of a block's bytes.
+// The check words come after the content: check word 0 or 1 of a block's bytes.
 fn check_word_of(bytes: &[u8], which: usize) -> u32
     requires { ⌜ 4 * (contentWords + which) + 4 ≤ length (now bytes) ⌝ }
     ensures { λ r. ⌜ r ≡ word (now (bytes .entry)) (4 * (contentWords + which)) ⌝ }
@@ -63,7 +62,7 @@ fn block_at<'a>(file: &'a [u8], b: usize) -> Block<'a>
     }
 }
 
-// "shows its 126 words"
+// A content word of the viewed block.
 fn shown<'a>(block: Block<'a>, w: usize) -> u32
     requires { ⌜ (length (now (block .bytes)) ≡ blockBytes) × (w < contentWords) ⌝ }
     ensures { λ r. ⌜ r ≡ word (now (block .entry .bytes)) (4 * w) ⌝ }
@@ -79,7 +78,7 @@ fn check_word<'a>(block: Block<'a>, which: usize) -> u32
     check_word_of(block.bytes, which)
 }
 
-// "Word 0 is the block's number from 0": whether it is the number that the view knows.
+// Whether the block's first word is the number that the view knows.
 fn numbered<'a>(block: Block<'a>) -> bool
     requires { ⌜ length (now (block .bytes)) ≡ blockBytes ⌝ }
     ensures { λ r. ⌜ r ≡ eqb (word (now (block .entry .bytes)) 0) (block .entry .number) ⌝ }

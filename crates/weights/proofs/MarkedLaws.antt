@@ -13,7 +13,8 @@ use Rattle.survey.specs.Sets.{Set, sum, only, total, cost, D, L}
 use Rattle.survey.proofs.SumOrder.{sum-at-most}
 use Rattle.survey.proofs.Sums.{sum-cong}
 use Rattle.survey.proofs.GivenSurvey.{given-group}
-use Rattle.survey.proofs.Admitted.{Sound, dead-small, cost-small}
+use Rattle.survey.specs.Sound.{Sound}
+use Rattle.survey.proofs.Admitted.{dead-small, cost-small}
 use Rattle.counts.specs.declared.Dead.{Dead}
 use Rattle.counts.specs.declared.Live.{Live}
 use Rattle.counts.specs.Counts.{CountsFit}

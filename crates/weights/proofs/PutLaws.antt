@@ -14,7 +14,7 @@ use Rattle.survey.specs.Words.{surveyAt, surveyOf, groupAt, lent}
 use Rattle.survey.specs.Sets.{Set, total, cost, deadOf, costOf, D, L}
 use Rattle.survey.specs.Rounds.{weights}
 use Rattle.survey.proofs.GivenSurvey.{given-group}
-use Rattle.survey.proofs.Admitted.{Sound}
+use Rattle.survey.specs.Sound.{Sound}
 use Rattle.counts.specs.declared.Group.{Group}
 use Rattle.counts.specs.declared.Weight.{Weight}
 use Rattle.counts.specs.Counts.{groupOf, GroupIs, CountsFit, WeightIs}

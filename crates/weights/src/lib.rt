@@ -6,6 +6,7 @@ use counts::add_live;
 use counts::cost;
 use counts::weight_of;
 use entries::group_at;
+use survey::stands::Stand;
 ghost use mathlib.Core.Path.{_≡_};
 ghost use Rattle.survey.specs.Sets.{only, D, L};
 ghost use Rattle.survey.specs.Sets as sets;
@@ -19,7 +20,7 @@ fn dead_of(groups: &[u8], marks: &[u8], g: usize) -> Dead
     ensures { λ r. ⌜ r .0 ≡ only (markedSet (now (marks .entry)) g) (groupAt (now (groups .entry)) lent g .dead) ⌝ }
 {
     if marks[g] == 1 {
-        let group = group_at(groups, 0, 0, g);
+        let group = group_at(groups, Stand::Lent, g);
         return group.dead;
     }
     Dead(0)
@@ -31,7 +32,7 @@ fn cost_of(groups: &[u8], marks: &[u8], g: usize) -> Live
     ensures { λ r. ⌜ r .0 ≡ only (markedSet (now (marks .entry)) g) (sets.cost (groupAt (now (groups .entry)) lent g)) ⌝ }
 {
     if marks[g] == 1 {
-        return cost(group_at(groups, 0, 0, g));
+        return cost(group_at(groups, Stand::Lent, g));
     }
     Live(0)
 }
@@ -73,7 +74,7 @@ pub fn put_weights(n: usize, groups: &[u8], d: Dead, l: Live, plus: &mut [u64], 
 {
     let mut g = 0;
     while g < n {
-        let weight = weight_of(group_at(groups, 0, 0, g), d, l);
+        let weight = weight_of(group_at(groups, Stand::Lent, g), d, l);
         plus[g] = weight.plus;
         minus[g] = weight.minus;
         g += 1;

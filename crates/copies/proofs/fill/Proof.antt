@@ -1,30 +1,29 @@
--- `copies::fill` meets its contract. The invariant: the list is filled as far as entry k. Assumes nothing.
+-- `copies::fill` meets its contract. The invariant: the list is filled as far as pair k. Assumes nothing.
 use Prim.Native.Nat.{_≤_, _-_}
-use Rattle.copies.proofs.CopyLaws.{filled-none, filled-more}
-use Rattle.entries.specs.Entries.{stand}
+use Rattle.copies.proofs.CopyLaws.{copied, filled-none, filled-more}
+use Rattle.words.proofs.WordLaws.{bytes-of}
+use Rattle.survey.specs.SurveyFile.{inBlocks}
 use Rattle.survey.specs.Promises.{Filled}
-use mathlib.Core.Path.{subst}
+use mathlib.Core.Path.{_≡_}
 use native.Mathlib.Omega.{arith}
 use Rattle.copies.proofs.fill.Statement.{statement}
 use Rattle.copies.proofs.fill.Tie as tie
 
 abbrev Inv-loop : tie.InvT-loop
-Inv-loop list₀ count file base gap k₀ list k = Filled list₀ list k file (stand base gap) × (k ≤ count)
+Inv-loop list₀ count file start k₀ list k = Filled list₀ list k file (inBlocks start) × (k ≤ count)
 
 abbrev μ-loop : tie.MeasureT-loop
-μ-loop list₀ count file base gap k₀ list k = count - k
+μ-loop list₀ count file start k₀ list k = count - k
 
 loop-holds : tie.Need-loop-holds Inv-loop μ-loop
 loop-holds c = (filled-none, omega arith)
 
-mul-copy-entry : tie.Need-mul-copy-entry Inv-loop μ-loop
-mul-copy-entry c = omega (arith, (c .before .before .before .before .before) .pre .room)
+block-pair-requires : tie.Need-block-pair-requires Inv-loop μ-loop
+block-pair-requires c κs = c .before .before .before .before .pre .within _ (c .loop-test .taken)
 
-entry-place-requires : tie.Need-entry-place-requires Inv-loop μ-loop
-entry-place-requires c κs = omega (arith, ((c .before .before .before .before .before) .pre .within ((c .before .before) .loop .k) (omega arith)))
-
-copy-entry-requires : tie.Need-copy-entry-requires Inv-loop μ-loop
-copy-entry-requires c κs = (omega (arith, (c .before .before .before .before .before .before) .pre .room, ((c .before .before .before) .loop .inv) .0 .long), omega (arith, (c .entry-place .ensures), ((c .before .before .before .before .before .before) .pre .within ((c .before .before .before) .loop .k) (omega arith))))
+put-pair-requires : tie.Need-put-pair-requires Inv-loop μ-loop
+put-pair-requires c κs =
+    omega (arith, c .before .before .before .before .before .before .pre .room, c .before .before .before .loop .inv .0 .long, c .before .before .loop-test .taken)
 
 add-k : tie.Need-add-k Inv-loop μ-loop
 add-k c = omega arith
@@ -33,13 +32,23 @@ loop-less : tie.Need-loop-less Inv-loop μ-loop
 loop-less c = omega arith
 
 loop-again : tie.Need-loop-again Inv-loop μ-loop
-loop-again c = (filled-more (((c .before .before .before .before .before .before) .loop .inv) .0) (rw ((c .before .before .before) .entry-place .ensures) at ((c .before .before) .copy-entry .ensures)), omega arith)
+loop-again c =
+    let filled = c .before .before .before .before .before .before .loop .inv .0 in
+    let taken = c .before .before .before .before .before .loop-test .taken in
+    let room = c .before .before .before .before .before .before .before .before .before .pre .room in
+    let small = c .before .before .before .before .before .before .before .shared-slice-known .given in
+    (
+      filled-more filled (copied (bytes-of _ small) (omega (arith, room, filled .long, taken)) (c .before .before .before .before .block-pair .ensures) (c .before .before .put-pair .ensures)),
+      omega arith,
+    )
 
 same-length : tie.Need-same-length Inv-loop μ-loop
-same-length c = ((c .before) .loop .inv) .0 .long
+same-length c = c .before .loop .inv .0 .long
 
 returns : tie.Need-returns Inv-loop μ-loop
-returns c = subst (λ n. Filled (((c .before .before .before .before) .args) .list .now) ((c .before) .loop .list) n (((c .before .before .before .before) .args) .file .now) (stand (((c .before .before .before .before) .args) .base) (((c .before .before .before .before) .args) .gap))) (omega arith) (((c .before) .loop .inv) .0)
+returns c =
+    let done : c .before .loop .k ≡ c .before .before .before .before .args .count = omega (arith, c .loop-test .left, c .before .loop .inv .1) in
+    rw done at (c .before .loop .inv .0)
 
 pub fill-spec : {M : Type 1} → statement M
 fill-spec =
@@ -48,9 +57,8 @@ fill-spec =
     Inv-loop
     μ-loop
     loop-holds
-    mul-copy-entry
-    entry-place-requires
-    copy-entry-requires
+    block-pair-requires
+    put-pair-requires
     add-k
     loop-less
     loop-again

@@ -9,10 +9,10 @@ check-requires : tie.Need-check-requires
 check-requires c κs = search needs
 
 judgement-number-requires : tie.Need-judgement-number-requires
-judgement-number-requires c κs = judgement-small ((c .before .before .before .before .before) .args .n) ((c .before .before .before .before .before) .args .e) (now ((c .before .before .before .before .before) .args .groups)) (now ((c .before .before .before .before .before) .args .links)) (now ((c .before .before .before .before .before) .args .marks)) (now ((c .before .before .before .before .before) .args .amounts)) (c .check .result) (record { verdict = c .check .ensures })
+judgement-number-requires c κs = judgement-small ((c .before .before .before .before .before) .args .n) ((c .before .before .before .before .before) .args .e) (now ((c .before .before .before .before .before) .args .groups)) (now ((c .before .before .before .before .before) .args .links)) (now ((c .before .before .before .before .before) .args .marks)) (now ((c .before .before .before .before .before) .args .amounts)) (c .check .result) (c .check .ensures)
 
 returns : tie.Need-returns
-returns c = record { judgement = (c .before) .check .result; says = record { verdict = (c .before) .check .ensures }; is = c .judgement-number .ensures }
+returns c = record { judgement = (c .before) .check .result; says = (c .before) .check .ensures; is = c .judgement-number .ensures }
 
 pub corkgully-check-spec : {M : Type 1} → statement M
 corkgully-check-spec = tie.close (tie.spec check-requires judgement-number-requires returns)

@@ -27,14 +27,14 @@ n-in-requires c κs = header-within (now ((c .before .before .before .before) .a
 e-in-requires : tie.Need-e-in-requires
 e-in-requires c κs = header-within (now ((c .before .before .before .before .before) .args .file)) (fine-clear (blockFaults (now ((c .before .before .before .before .before) .args .file))) (rw ((c .before) .enum-told .given .1) at ((c .before .before .before) .block-faults .ensures)))
 
-link-base-requires : tie.Need-link-base-requires
-link-base-requires c κs = search needs
+first-link-block-requires : tie.Need-first-link-block-requires
+first-link-block-requires c κs = search needs
 
 admit-requires : tie.Need-admit-requires
-admit-requires c κs = (groups-fit (now ((c .before .before .before .before .before .before .before) .args .file)) (fine-clear (blockFaults (now ((c .before .before .before .before .before .before .before) .args .file))) (rw ((c .before .before .before) .enum-told .given .1) at ((c .before .before .before .before .before) .block-faults .ensures))) ((c .before .before) .n-in .ensures .0) ((c .before) .e-in .ensures .0) (c .link-base .ensures), links-fit (now ((c .before .before .before .before .before .before .before) .args .file)) (fine-clear (blockFaults (now ((c .before .before .before .before .before .before .before) .args .file))) (rw ((c .before .before .before) .enum-told .given .1) at ((c .before .before .before .before .before) .block-faults .ensures))) ((c .before .before) .n-in .ensures .0) ((c .before) .e-in .ensures .0) (c .link-base .ensures))
+admit-requires c κs = (groups-fit (now ((c .before .before .before .before .before .before .before) .args .file)) (fine-clear (blockFaults (now ((c .before .before .before .before .before .before .before) .args .file))) (rw ((c .before .before .before) .enum-told .given .1) at ((c .before .before .before .before .before) .block-faults .ensures))) ((c .before .before) .n-in .ensures .0) ((c .before) .e-in .ensures .0) (c .first-link-block .ensures), links-fit (now ((c .before .before .before .before .before .before .before) .args .file)) (fine-clear (blockFaults (now ((c .before .before .before .before .before .before .before) .args .file))) (rw ((c .before .before .before) .enum-told .given .1) at ((c .before .before .before .before .before) .block-faults .ensures))) ((c .before .before) .n-in .ensures .0) ((c .before) .e-in .ensures .0) (c .first-link-block .ensures))
 
 returns-2 : tie.Need-returns-2
-returns-2 c = then-survey (now ((c .before .before .before .before .before .before .before .before) .args .file)) (fine-clear (blockFaults (now ((c .before .before .before .before .before .before .before .before) .args .file))) (rw ((c .before .before .before .before) .enum-told .given .1) at ((c .before .before .before .before .before .before) .block-faults .ensures))) ((c .before .before .before) .n-in .ensures .0) ((c .before .before) .e-in .ensures .0) ((c .before) .link-base .ensures) (c .admit .ensures)
+returns-2 c = then-survey (now ((c .before .before .before .before .before .before .before .before) .args .file)) (fine-clear (blockFaults (now ((c .before .before .before .before .before .before .before .before) .args .file))) (rw ((c .before .before .before .before) .enum-told .given .1) at ((c .before .before .before .before .before .before) .block-faults .ensures))) ((c .before .before .before) .n-in .ensures .0) ((c .before .before) .e-in .ensures .0) ((c .before) .first-link-block .ensures) (c .admit .ensures)
 
 pub faults-in-spec : {M : Type 1} → statement M
 faults-in-spec =
@@ -46,6 +46,6 @@ faults-in-spec =
     enum-told
     n-in-requires
     e-in-requires
-    link-base-requires
+    first-link-block-requires
     admit-requires
     returns-2)

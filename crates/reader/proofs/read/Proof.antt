@@ -45,14 +45,14 @@ n-in-requires c κs = header-within (now ((c .before .before .before .before .be
 e-in-requires : tie.Need-e-in-requires
 e-in-requires c κs = header-within (now ((c .before .before .before .before .before .before .before .before .before .before .before) .args .file)) (blocks-clear (now ((c .before .before .before .before .before .before .before .before .before .before .before) .args .file)) (rw ((c .before) .enum-told .given .1) at ((c .before .before .before) .faults-in .ensures)))
 
-link-base-requires : tie.Need-link-base-requires
-link-base-requires c κs = search needs
+first-link-block-requires : tie.Need-first-link-block-requires
+first-link-block-requires c κs = search needs
 
 fill-requires : tie.Need-fill-requires
-fill-requires c κs = groups-fillable (now ((c .before .before .before .before .before .before .before .before .before .before .before .before .before .before) .args .file)) (blocks-clear (now ((c .before .before .before .before .before .before .before .before .before .before .before .before .before .before) .args .file)) (rw ((c .before .before .before .before) .enum-told .given .1) at ((c .before .before .before .before .before .before) .faults-in .ensures))) ((c .before .before .before) .n-in .ensures .0) ((c .before .before) .e-in .ensures .0) ((c .before) .link-base .ensures) (group-room (now ((c .before .before .before .before .before .before .before .before .before .before .before .before .before .before) .args .groups)) (now ((c .before .before .before .before .before .before .before .before .before .before .before .before .before .before) .args .links)) (rw ((c .before .before .before .before .before .before .before) .if1 .left) at ((c .before .before .before .before .before .before .before .before) .lists-short .ensures)))
+fill-requires c κs = groups-fillable (now ((c .before .before .before .before .before .before .before .before .before .before .before .before .before .before) .args .file)) (blocks-clear (now ((c .before .before .before .before .before .before .before .before .before .before .before .before .before .before) .args .file)) (rw ((c .before .before .before .before) .enum-told .given .1) at ((c .before .before .before .before .before .before) .faults-in .ensures))) ((c .before .before .before) .n-in .ensures .0) ((c .before .before) .e-in .ensures .0) ((c .before) .first-link-block .ensures) (group-room (now ((c .before .before .before .before .before .before .before .before .before .before .before .before .before .before) .args .groups)) (now ((c .before .before .before .before .before .before .before .before .before .before .before .before .before .before) .args .links)) (rw ((c .before .before .before .before .before .before .before) .if1 .left) at ((c .before .before .before .before .before .before .before .before) .lists-short .ensures)))
 
 fill-requires-2 : tie.Need-fill-requires-2
-fill-requires-2 c κs = links-fillable (now ((c .before .before .before .before .before .before .before .before .before .before .before .before .before .before .before .before .before .before) .args .file)) (blocks-clear (now ((c .before .before .before .before .before .before .before .before .before .before .before .before .before .before .before .before .before .before) .args .file)) (rw ((c .before .before .before .before .before .before .before .before) .enum-told .given .1) at ((c .before .before .before .before .before .before .before .before .before .before) .faults-in .ensures))) ((c .before .before .before .before .before .before .before) .n-in .ensures .0) ((c .before .before .before .before .before .before) .e-in .ensures .0) ((c .before .before .before .before .before) .link-base .ensures) (link-room (now ((c .before .before .before .before .before .before .before .before .before .before .before .before .before .before .before .before .before .before) .args .groups)) (now ((c .before .before .before .before .before .before .before .before .before .before .before .before .before .before .before .before .before .before) .args .links)) (rw ((c .before .before .before .before .before .before .before .before .before .before .before) .if1 .left) at ((c .before .before .before .before .before .before .before .before .before .before .before .before) .lists-short .ensures)))
+fill-requires-2 c κs = links-fillable (now ((c .before .before .before .before .before .before .before .before .before .before .before .before .before .before .before .before .before .before) .args .file)) (blocks-clear (now ((c .before .before .before .before .before .before .before .before .before .before .before .before .before .before .before .before .before .before) .args .file)) (rw ((c .before .before .before .before .before .before .before .before) .enum-told .given .1) at ((c .before .before .before .before .before .before .before .before .before .before) .faults-in .ensures))) ((c .before .before .before .before .before .before .before) .n-in .ensures .0) ((c .before .before .before .before .before .before) .e-in .ensures .0) ((c .before .before .before .before .before) .first-link-block .ensures) (link-room (now ((c .before .before .before .before .before .before .before .before .before .before .before .before .before .before .before .before .before .before) .args .groups)) (now ((c .before .before .before .before .before .before .before .before .before .before .before .before .before .before .before .before .before .before) .args .links)) (rw ((c .before .before .before .before .before .before .before .before .before .before .before) .if1 .left) at ((c .before .before .before .before .before .before .before .before .before .before .before .before) .lists-short .ensures)))
 
 same-length-5 : tie.Need-same-length-5
 same-length-5 c = search needs
@@ -61,7 +61,7 @@ same-length-6 : tie.Need-same-length-6
 same-length-6 c = search needs
 
 returns-3 : tie.Need-returns-3
-returns-3 c = file-read (now ((c .before .before .before .before .before .before .before .before .before .before .before .before .before .before .before .before .before .before .before .before .before) .args .file)) (now ((c .before .before .before .before .before .before .before .before .before .before .before .before .before .before .before .before .before .before .before .before .before) .args .groups)) (now ((c .before .before .before .before .before .before .before .before .before .before .before .before .before .before .before .before .before .before .before .before .before) .args .links)) (rw ((c .before .before .before .before .before .before .before .before .before .before .before .before .before .before) .if1 .left) at ((c .before .before .before .before .before .before .before .before .before .before .before .before .before .before .before) .lists-short .ensures)) (rw ((c .before .before .before .before .before .before .before .before .before .before .before) .enum-told .given .1) at ((c .before .before .before .before .before .before .before .before .before .before .before .before .before) .faults-in .ensures)) ((c .before .before .before .before .before .before .before .before .before .before) .n-in .ensures .0) ((c .before .before .before .before .before .before .before .before .before) .e-in .ensures .0) ((c .before .before .before .before .before .before .before .before) .link-base .ensures) ((c .before .before .before .before .before .before) .fill .ensures) ((c .before .before) .fill2 .ensures)
+returns-3 c = file-read (now ((c .before .before .before .before .before .before .before .before .before .before .before .before .before .before .before .before .before .before .before .before .before) .args .file)) (now ((c .before .before .before .before .before .before .before .before .before .before .before .before .before .before .before .before .before .before .before .before .before) .args .groups)) (now ((c .before .before .before .before .before .before .before .before .before .before .before .before .before .before .before .before .before .before .before .before .before) .args .links)) (rw ((c .before .before .before .before .before .before .before .before .before .before .before .before .before .before) .if1 .left) at ((c .before .before .before .before .before .before .before .before .before .before .before .before .before .before .before) .lists-short .ensures)) (rw ((c .before .before .before .before .before .before .before .before .before .before .before) .enum-told .given .1) at ((c .before .before .before .before .before .before .before .before .before .before .before .before .before) .faults-in .ensures)) ((c .before .before .before .before .before .before .before .before .before .before) .n-in .ensures .0) ((c .before .before .before .before .before .before .before .before .before) .e-in .ensures .0) ((c .before .before .before .before .before .before .before .before) .first-link-block .ensures) ((c .before .before .before .before .before .before) .fill .ensures) ((c .before .before) .fill2 .ensures)
 
 pub read-spec : {M : Type 1} → statement M
 read-spec =
@@ -80,7 +80,7 @@ read-spec =
     enum-told
     n-in-requires
     e-in-requires
-    link-base-requires
+    first-link-block-requires
     fill-requires
     fill-requires-2
     same-length-5

@@ -8,22 +8,25 @@ use Rattle.blocks.proofs.tests.unused_are_zero.Statement.{statement}
 use Rattle.blocks.proofs.tests.unused_are_zero.Tie as tie
 
 abbrev Inv-loop : tie.InvT-loop
-Inv-loop file n e b w₀ w = (usedWords n e b ≤ w) × ((k : ℕ) → k < w → usedWords n e b ≤ k → blockWord file b k ≡ 0)
+Inv-loop file n e b kind w₀ w = (usedWords n e b ≤ w) × ((k : ℕ) → k < w → usedWords n e b ≤ k → blockWord file b k ≡ 0)
 
 abbrev μ-loop : tie.MeasureT-loop
-μ-loop file n e b w₀ w = 126 - w
+μ-loop file n e b kind w₀ w = 126 - w
+
+block-word-requires : tie.Need-block-word-requires Inv-loop μ-loop
+block-word-requires c κs = (c .before .pre .0, omega arith)
 
 used-words-requires : tie.Need-used-words-requires Inv-loop μ-loop
-used-words-requires c κs = (c .before) .pre .1
+used-words-requires c κs = (c .before .before .pre .1, c .block-word .ensures ∙ c .before .before .pre .2)
 
 loop-holds : tie.Need-loop-holds Inv-loop μ-loop
 loop-holds c = (omega arith, λ k l m. absurd (omega arith))
 
-block-word-requires : tie.Need-block-word-requires Inv-loop μ-loop
-block-word-requires c κs = ((c .before .before .before .before) .pre .0, omega arith)
+block-word-requires-2 : tie.Need-block-word-requires-2 Inv-loop μ-loop
+block-word-requires-2 c κs = ((c .before .before .before .before .before) .pre .0, omega arith)
 
 returns : tie.Need-returns Inv-loop μ-loop
-returns c = λ u. c .if1 .taken (((c .before) .block-word .ensures) ∙ u .at (((c .before .before .before) .loop .w)) (((c .before .before .before) .loop .inv) .0) (omega arith))
+returns c = λ u. c .if1 .taken (((c .before) .block-word2 .ensures) ∙ u .at (((c .before .before .before) .loop .w)) (((c .before .before .before) .loop .inv) .0) (omega arith))
 
 add-w : tie.Need-add-w Inv-loop μ-loop
 add-w c = omega arith
@@ -32,7 +35,7 @@ loop-less : tie.Need-loop-less Inv-loop μ-loop
 loop-less c = omega arith
 
 loop-again : tie.Need-loop-again Inv-loop μ-loop
-loop-again c = (omega arith, below-more _ _ (((c .before .before .before) .loop .inv) .1) (λ l. sym ((c .before) .block-word .ensures) ∙ c .if1 .left))
+loop-again c = (omega arith, below-more _ _ (((c .before .before .before) .loop .inv) .1) (λ l. sym ((c .before) .block-word2 .ensures) ∙ c .if1 .left))
 
 returns-2 : tie.Need-returns-2 Inv-loop μ-loop
 returns-2 c = record { at = λ w l m. ((c .before) .loop .inv) .1 w (omega arith) l }
@@ -43,9 +46,10 @@ unused-are-zero-spec =
     (tie.spec
     Inv-loop
     μ-loop
+    block-word-requires
     used-words-requires
     loop-holds
-    block-word-requires
+    block-word-requires-2
     returns
     add-w
     loop-less

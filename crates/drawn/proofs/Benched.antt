@@ -7,28 +7,16 @@ use Rattle.survey.specs.Survey.{Survey, Group, Link}
 use Rattle.survey.specs.Sets.{Set, allGroups, sum, total}
 use Rattle.survey.specs.Pick.{IsPick}
 use Rattle.survey.specs.Rounds.{RoundsOf, Heaviest, weights}
-use Rattle.survey.specs.Refusals.{fine}
-use Rattle.survey.specs.Faults.{listFaults, Admitted}
-use Rattle.survey.specs.Drawings.{counts, link, drawn, setOf, f2, f7}
+use Rattle.survey.specs.Faults.{Admitted}
+use Rattle.survey.specs.Drawings.{counts, link, drawn, setOf, admits, f2, f7}
 use Rattle.survey.proofs.Reaching.{somewhere, anyLink, via, hasCycle}
 use Rattle.survey.proofs.Deciding.{both, allBelow}
 use Rattle.survey.proofs.AllSets.{findFrom, findSet, anySet, everySet}
 use Rattle.survey.proofs.SetTests.{insideTest, inside-told, containsTest, closedTest, eligibleTest, greatestTest, heaviestTest, heaviest-told}
-use Rattle.survey.proofs.Verdicts.{fine-clear}
-use Rattle.survey.proofs.ComputedVerdicts.{lowestBelow, verdictOf, verdictTest, answers-told}
-use Rattle.survey.proofs.ClaimTests.{surveyTests, survey-rows-told}
-use Rattle.survey.proofs.Drawings.{drawings-hold}
-use Rattle.useless.proofs.Calls.{groupBytes, linkBytes, Lends, zeros, some-call}
-
--- ---- which surveys are admitted, computed
-
-unfoldable admittedTest : Survey → Bool
-admittedTest s = insideTest s && verdictTest (verdictOf (listFaults s) (surveyTests s)) fine
-
-admitted-holds : (s : Survey) → admittedTest s ≡ true → Admitted s
-unfolding admittedTest
-admitted-holds s h =
-    record { clear = fine-clear (listFaults s) (both (inside-told s) (λ i. answers-told (survey-rows-told i) fine) .so h .1) }
+use Rattle.survey.proofs.ComputedVerdicts.{lowestBelow, verdictOf, verdictTest}
+use Rattle.survey.proofs.ClaimTests.{surveyTests}
+use Rattle.survey.proofs.Drawings.{saysTest, right, right-holds, drawings-hold}
+use Rattle.drawn.proofs.Calls.{groupBytes, linkBytes, Lends, zeros, some-call}
 
 -- ---- F2 and F7, each with calls that lend it
 
@@ -53,20 +41,20 @@ pub f7-lent : (marks amounts : List ℕ) → Lends f7 (groupBytes f7Groups ++ ze
 f7-lent = some-call f7Groups f7Links
 
 pub f2-admitted : Admitted f2
-unfolding admittedTest insideTest allBelow lowestBelow verdictOf verdictTest surveyTests somewhere anyLink via hasCycle
-f2-admitted = admitted-holds f2 refl
+unfolding right saysTest insideTest allBelow lowestBelow verdictOf verdictTest surveyTests somewhere anyLink via hasCycle
+f2-admitted = right-holds (admits f2) refl
 
 pub f7-admitted : Admitted f7
-unfolding admittedTest insideTest allBelow lowestBelow verdictOf verdictTest surveyTests somewhere anyLink via hasCycle
-f7-admitted = admitted-holds f7 refl
+unfolding right saysTest insideTest allBelow lowestBelow verdictOf verdictTest surveyTests somewhere anyLink via hasCycle
+f7-admitted = right-holds (admits f7) refl
 
 -- a drawing for averages: 1:2, 2:3, 4:5; links (0,1) (0,2)
 abbrev pub uneven : Survey
 uneven = drawn (counts 1 2 ∷ counts 2 3 ∷ counts 4 5 ∷ []) (link 0 1 ∷ link 0 2 ∷ [])
 
 pub uneven-admitted : Admitted uneven
-unfolding admittedTest insideTest allBelow lowestBelow verdictOf verdictTest surveyTests somewhere anyLink via hasCycle
-uneven-admitted = admitted-holds uneven refl
+unfolding right saysTest insideTest allBelow lowestBelow verdictOf verdictTest surveyTests somewhere anyLink via hasCycle
+uneven-admitted = right-holds (admits uneven) refl
 
 -- F2: its pick is {1,4}.
 pub f2-pick : IsPick f2 (setOf (1 ∷ 4 ∷ []))

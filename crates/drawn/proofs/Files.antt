@@ -7,7 +7,8 @@ use lib.Dec.{eqb, leb, ltb}
 use lib.ListN.{length, getD}
 use Rattle.survey.specs.Limits.{groupLimit, linkLimit, blockBytes, contentWords}
 use Rattle.survey.specs.Survey.{Survey, Group, Link}
-use Rattle.survey.specs.Words.{Stand, groupAt, linkAt, surveyAt}
+use Rattle.survey.specs.declared.stands.Stand.{Stand}
+use Rattle.survey.specs.Words.{groupAt, linkAt, surveyAt}
 use Rattle.survey.specs.SurveyFile.{CheckAgrees, sums, blockWord, blockCount, numberIn, kindIn, kindOf, nIn, eIn, blocksNeeded, fileLimit, usedWords, UnusedAreZero}
 use Rattle.survey.specs.SurveyFile.{inBlocks, firstGroupBlock, firstLinkBlock, surveyIn}
 use Rattle.survey.specs.Refusals.{fine, Fault, AllClear}
@@ -17,8 +18,8 @@ use Rattle.blocks.specs.FileFaults.{blockFaults}
 use Rattle.survey.proofs.Deciding.{Decides, told-iff, both, either, denied, implied, less, at-most, equal, allBelow, all-below}
 use Rattle.survey.proofs.Verdicts.{fine-clear}
 use Rattle.survey.proofs.ComputedVerdicts.{lowestBelow, verdictOf, verdictTest, RowsTold, noRow, row, answers-told}
-use Rattle.useless.proofs.Calls.{pair, groupBytes, linkBytes, zeros, cut-off}
-use Rattle.useless.proofs.Benched.{f2Groups, f2Links, f7Groups, f7Links, f2-admitted, f7-admitted}
+use Rattle.drawn.proofs.Calls.{pair, groupBytes, linkBytes, zeros, cut-off}
+use Rattle.drawn.proofs.Benched.{f2Groups, f2Links, f7Groups, f7Links, f2-admitted, f7-admitted}
 
 -- ---- the rows 2 to 7, decided by computing
 
