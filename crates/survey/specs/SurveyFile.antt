@@ -86,8 +86,8 @@ kindOf n b = cond (eqb b 0) 1 (cond (leb (firstLinkBlock n) b) 3 2)
 abbrev pub pairWords : ℕ → ℕ
 pairWords k = 2 + 2 * k
 
--- 9.6: in block b the words from this one on have no use, in block 0 after n and e, elsewhere after the last pair. A block that is not the last of
--- its kind is full, and more pairs are left for it and those after it than it has room for: there this passes 126, and no word of the block is unused, since
+-- 9.6: in block b the words from this one on have no use, in block 0 after n and e, elsewhere after the last pair. A block that
+-- others of its kind follow is full, and more pairs are left for it and those after it than it has room for: there this passes 126, and no word of the block is unused, since
 -- `UnusedAreZero` looks at the words from here up to 126 alone.
 abbrev pub usedWords : ℕ → ℕ → ℕ → ℕ
 usedWords n e b =
