@@ -1,4 +1,4 @@
--- What the checker's promise comes to (Specification 1.4, demand 3): what it accepts is the pick, it accepts exactly what the balance rule accepts, and refusal 18 always has
+-- What the checker's promise comes to: what it accepts is the pick, it accepts exactly what the balance rule accepts, and refusal 18 always has
 -- its place.
 use Prim.Native.Nat.{ℕ, _≤_, _<_}
 use native.Mathlib.Decide.{ℕ-discrete}

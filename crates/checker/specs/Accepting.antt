@@ -1,4 +1,4 @@
--- What it is for a claim to be acceptable, all rows and the balance rule together, and what a refusal 18 says.
+-- What it is for a claim to be acceptable, all rows and the balance rule together (Specification 1.4, demand 3), and what a refusal 18 says.
 use Prim.Native.Nat.{ℕ, _≤_, _<_}
 use mathlib.Core.Path.{_≡_}
 use mathlib.Core.Logic.{_⊎_}
@@ -35,7 +35,7 @@ before18 n e groups links marks amounts =
     ∷ balanceAbove (surveyOf n e groups links) (markedSet marks) (amountsOf amounts)
     ∷ [])
 
--- A refusal 18: its group is the lowest that the largest set has and the claimed one has not, and the claimed set lies in the largest.
+-- A refusal 18: its group is the lowest that the largest settled set has and the claim leaves out, and the claimed set lies in the largest.
 pub record Refused18 (n e : ℕ) (groups links marks amounts : List ℕ) (r : Judgement) : Type 0 where
   pub group : ℕ
   pub is : r ≡ Judgement.Refused (refusalAt 18 group)

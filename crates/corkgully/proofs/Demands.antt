@@ -1,4 +1,4 @@
--- The three demands, as three theorems. They are stated over what the exported functions promise (specs/Numbers: `ReadNumber`, `ChooseNumber`, `CheckNumber`
+-- The three demands of Specification 1.4, as three theorems. They are stated over what the exported functions promise (specs/Numbers: `ReadNumber`, `ChooseNumber`, `CheckNumber`
 -- say which number answers a call, and what the lent lists are afterwards) and in the words of docs/SPECIFICATION.md. The functions ask nothing of their
 -- callers, so the theorems hold of every file and every call. A list with a ′ is what its list has become when the call is over.
 use Prim.Native.Nat.{ℕ, _+_, _*_, _%_, _≤_}

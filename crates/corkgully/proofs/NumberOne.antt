@@ -30,7 +30,7 @@ read-number-one a b =
     record { answer = a .is ∙ ap (λ (r : Reading). readingNumber r) (same .answer) ∙ sym (b .is); groups = same .groups; links = same .links }
 
 -- The same number and the same marks; of the amounts all that is settled: the same past entry e, the same everywhere after a refusal, and the same
--- everywhere once the first e are. Those are the one exception: several may meet the balance rule.
+-- everywhere once the first e are. Those are the one exception: there can be several that pass the balance rule.
 pub record SameChosen (e x x′ : ℕ) (m m′ a a′ : List ℕ) : Type 0 where
   pub answer : x ≡ x′
   pub marks : m ≡ m′

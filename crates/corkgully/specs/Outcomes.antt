@@ -1,4 +1,4 @@
--- How a call over the boundary can end, as the three demands say it (proofs/Demands).
+-- How a call over the boundary can end, as the three demands of Specification 1.4 say it (proofs/Demands).
 use Prim.Native.Nat.{ℕ, _+_, _*_, _%_}
 use mathlib.Core.Path.{_≡_}
 use mathlib.Core.List.{List, _∷_, _++_}

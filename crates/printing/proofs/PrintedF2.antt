@@ -1,4 +1,4 @@
--- Specification 14.4: of F2's three blocks these four lines are printed.
+-- Specification 14.4: of F2's three blocks the definition gives these four lines.
 use mathlib.Core.Path.{_≡_, refl, sym, ap, subst, _∙_}
 use mathlib.Core.List.{List, [], _∷_, _++_}
 use Prim.Native.Nat.{ℕ}

@@ -86,7 +86,7 @@ pub file-survey : {f : List ℕ} → AdmittedFile f → Admitted (surveyIn f)
 unfolding AllClear surveyAt
 file-survey a = record { clear = (a .clear .1 .1 .1 .0, a .clear .1 .1 .1 .1 .1 .1 .1) }
 
--- D and L of a set are at most that many groups' counts.
+-- What D and L can come to: the counts of as many groups as there may be.
 module _ {s : Survey} (x : Sound s) (S : Set) where
   some-of : (f : ℕ → ℕ) → ((g : ℕ) → g < s .n → f g ≤ countLimit) → total s f S ≤ sumLimit
   unfolding total

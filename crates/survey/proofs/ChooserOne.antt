@@ -1,5 +1,5 @@
--- Two answers that the chooser's promise allows have the same refusal, marks and rounds. The first e amounts are the one exception: several may meet
--- the balance rule. And the chooser's own pick and amounts are accepted by the checker's definition.
+-- Two answers that the chooser's promise allows have the same refusal, marks and rounds. The first e amounts are the one exception: there can be
+-- several that pass the balance rule. And the chooser's own pick and amounts are accepted by the checker's definition.
 use Prim.Native.Nat.{ℕ, _*_, _≤_, _<_}
 use native.Mathlib.Decide.{decLt}
 use native.Mathlib.Omega.{arith}

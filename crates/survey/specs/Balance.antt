@@ -27,10 +27,11 @@ credit s w a g = w .plus g + gets s a g
 abbrev pub debit : Survey → Weights → Amounts → ℕ → ℕ
 debit s w a g = w .minus g + pays s a g
 
--- 7.2: the two halves of a balance, which is credit less debit: what it is above 0, and what it is below
+-- 7.2: how much the balance, which is credit less debit, is above 0
 abbrev pub excess : Survey → Weights → Amounts → ℕ → ℕ
 excess s w a g = credit s w a g - debit s w a g
 
+-- 7.2: how much it is below 0
 abbrev pub lack : Survey → Weights → Amounts → ℕ → ℕ
 lack s w a g = debit s w a g - credit s w a g
 

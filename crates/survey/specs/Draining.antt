@@ -1,5 +1,6 @@
 -- Not of the specification, but what its proofs turn on: the set that drains, the least one that holds every group with a balance below 0 and
--- that a group with a link to pay it by joins. Outside it lies the heaviest set (flow) and the largest set of the balance rule (checker).
+-- that a group with a link to pay it by joins. Outside it lies the heaviest set (flow) and the largest settled set (checker).
+-- docs/MATHEMATICS.md, 4, has the thought behind it.
 use Prim.Native.Nat.{ℕ, _<_}
 use Rattle.survey.specs.Survey.{Survey}
 use Rattle.survey.specs.Sets.{Set, In, Contains}

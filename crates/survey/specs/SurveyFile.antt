@@ -82,12 +82,12 @@ fileLimit = blockBytes * blocksNeeded groupLimit linkLimit
 abbrev pub kindOf : ℕ → ℕ → ℕ
 kindOf n b = cond (eqb b 0) 1 (cond (leb (firstLinkBlock n) b) 3 2)
 
--- 9.5: pairs stand from word 2 on. So many words of a block are in use where k pairs are left for it and those after it.
+-- 9.6: pairs stand from word 2 on. So many words of a block are in use where k pairs are left for it and those after it.
 abbrev pub pairWords : ℕ → ℕ
 pairWords k = 2 + 2 * k
 
--- 9.6: in block b the words from this one on have no use, in block 0 after n and e, elsewhere after the last pair. A block that is not the last of
--- its kind is full, and more pairs are left for it and those after it than it has room for: there this passes 126, and no word of the block is unused, since
+-- 9.6: in block b the words from this one on have no use, in block 0 after n and e, elsewhere after the last pair. A block that
+-- others of its kind follow is full, and more pairs are left for it and those after it than it has room for: there this passes 126, and no word of the block is unused, since
 -- `UnusedAreZero` looks at the words from here up to 126 alone.
 abbrev pub usedWords : ℕ → ℕ → ℕ → ℕ
 usedWords n e b =
@@ -98,7 +98,7 @@ usedWords n e b =
 pub record UnusedAreZero (f : List ℕ) (n e b : ℕ) : Type 0 where
   pub at : (w : ℕ) → usedWords n e b ≤ w → w < contentWords → blockWord f b w ≡ 0
 
--- 9.5: the pairs of a kind whose first block is this one stand in the blocks from there on.
+-- 9.5: the pairs of a kind, in its blocks from block first on
 abbrev pub inBlocks : ℕ → Stand
 inBlocks first = Blocks first
 

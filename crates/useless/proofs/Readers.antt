@@ -43,7 +43,7 @@ module _ {f groups links groups′ links′ : List ℕ} where
 abbrev SameEntries : ℕ → List ℕ → List ℕ → Type 0
 SameEntries k l l′ = (i : ℕ) → i < entryBytes * k → getD l i 0 ≡ getD l′ i 0
 
--- A reader that fills in the same survey each time: two files that differ are never both answered with the same n and e and lists that begin with the same
+-- One that puts the same survey into its lists every time: two files that differ are never both answered with the same n and e and lists that begin with the same
 -- entries, whatever was lent and whatever stands after the entries.
 pub same-survey-each-time :
     {f f₂ groups links groups₂ links₂ groups′ links′ groups₂′ links₂′ : List ℕ} {n e : ℕ} → Bytes f → Bytes f₂ → (f ≡ f₂ → ⊥)
@@ -55,13 +55,13 @@ same-survey-each-time {groups′ = groups′} {links′ = links′} {groups₂�
 -- ---- on F2's file and F7's
 
 module _ {groups links groups′ links′ : List ℕ} where
-  -- one that refuses everything
+  -- one that refuses whatever it gets
   pub refuses-f2 :
       Clear (tooShort (groupList (entries groups) ∷ linkList (entries links) ∷ [])) → {x : Refusal}
       → ReaderSays f2File groups links (Reading.Refused x) groups′ links′ → ⊥
   refuses-f2 long y = refuses-every-file long f2-file-admitted y
 
-  -- the same survey each time: whatever it fills its lists with, it is not allowed for both files, since no n is
+  -- the same survey every time: whatever it fills its lists with, it is not allowed for both files, since no n is
   pub same-for-f2-and-f7 :
       {groups₇ links₇ groups₇′ links₇′ : List ℕ} {n e : ℕ} → ReaderSays f2File groups links (Reading.Survey n e) groups′ links′
       → ReaderSays f7File groups₇ links₇ (Reading.Survey n e) groups₇′ links₇′ → ⊥
