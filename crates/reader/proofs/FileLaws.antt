@@ -51,11 +51,20 @@ module _ (f : List ℕ) (c : AllClear (blockFaults f)) where
     pub links-fit : EntriesFit e linkLimit f (inBlocks first)
     links-fit = record { fit = λ h j l. rw same-first (links-within laid j (rw ee at l)) }
 
-    pub groups-fillable : {list : List ℕ} → groupLimit ≤ entries list → Fillable list n f firstGroupBlock
-    groups-fillable h = record { room = omega (arith, clear-range f c .groups, en); within = groups-fit .fit (omega (arith, clear-range f c .groups, en)) }
+    -- so many of the groups, or of the links, can be copied as there are, and fewer
+    pub groups-fillable : {list : List ℕ} {count : ℕ} → count ≤ n → groupLimit ≤ entries list → Fillable list count f firstGroupBlock
+    groups-fillable few h =
+        record {
+          room = omega (arith, clear-range f c .groups, en);
+          within = λ k l. groups-fit .fit (omega (arith, clear-range f c .groups, en)) k (omega arith);
+        }
 
-    pub links-fillable : {list : List ℕ} → linkLimit ≤ entries list → Fillable list e f first
-    links-fillable h = record { room = omega (arith, clear-range f c .links, ee); within = links-fit .fit (omega (arith, clear-range f c .links, ee)) }
+    pub links-fillable : {list : List ℕ} {count : ℕ} → count ≤ e → linkLimit ≤ entries list → Fillable list count f first
+    links-fillable few h =
+        record {
+          room = omega (arith, clear-range f c .links, ee);
+          within = λ k l. links-fit .fit (omega (arith, clear-range f c .links, ee)) k (omega arith);
+        }
 
     -- After the rows 2 to 7 come those of the survey, 8 to 12; 5 was looked for before.
     pub then-survey : {v : Verdict} → Answers (listFaults (surveyAt n e f (inBlocks firstGroupBlock) f (inBlocks first))) v → Answers (fileFaults f) v

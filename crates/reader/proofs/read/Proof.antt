@@ -1,6 +1,7 @@
 -- `reader::read` meets its contract. The lists are looked at, then the file, and only then filled. Assumes nothing.
 use Rattle.reader.proofs.Readings.{blocks-clear, group-room, link-room, lists-refused, file-refused, file-read}
 use Rattle.reader.proofs.FileLaws.{header-within, groups-fillable, links-fillable}
+use native.Mathlib.Omega.{arith}
 use denote.Ref.{now}
 use borrow.Author.Needs.{needs}
 use Rattle.reader.proofs.read.Statement.{statement}
@@ -49,10 +50,10 @@ first-link-block-requires : tie.Need-first-link-block-requires
 first-link-block-requires c κs = search needs
 
 fill-requires : tie.Need-fill-requires
-fill-requires c κs = groups-fillable (now ((c .before .before .before .before .before .before .before .before .before .before .before .before .before .before) .args .file)) (blocks-clear (now ((c .before .before .before .before .before .before .before .before .before .before .before .before .before .before) .args .file)) (rw ((c .before .before .before .before) .enum-told .given .1) at ((c .before .before .before .before .before .before) .faults-in .ensures))) ((c .before .before .before) .n-in .ensures .0) ((c .before .before) .e-in .ensures .0) ((c .before) .first-link-block .ensures) (group-room (now ((c .before .before .before .before .before .before .before .before .before .before .before .before .before .before) .args .groups)) (now ((c .before .before .before .before .before .before .before .before .before .before .before .before .before .before) .args .links)) (rw ((c .before .before .before .before .before .before .before) .if1 .left) at ((c .before .before .before .before .before .before .before .before) .lists-short .ensures)))
+fill-requires c κs = groups-fillable (now ((c .before .before .before .before .before .before .before .before .before .before .before .before .before .before) .args .file)) (blocks-clear (now ((c .before .before .before .before .before .before .before .before .before .before .before .before .before .before) .args .file)) (rw ((c .before .before .before .before) .enum-told .given .1) at ((c .before .before .before .before .before .before) .faults-in .ensures))) ((c .before .before .before) .n-in .ensures .0) ((c .before .before) .e-in .ensures .0) ((c .before) .first-link-block .ensures) (omega arith) (group-room (now ((c .before .before .before .before .before .before .before .before .before .before .before .before .before .before) .args .groups)) (now ((c .before .before .before .before .before .before .before .before .before .before .before .before .before .before) .args .links)) (rw ((c .before .before .before .before .before .before .before) .if1 .left) at ((c .before .before .before .before .before .before .before .before) .lists-short .ensures)))
 
 fill-requires-2 : tie.Need-fill-requires-2
-fill-requires-2 c κs = links-fillable (now ((c .before .before .before .before .before .before .before .before .before .before .before .before .before .before .before .before .before .before) .args .file)) (blocks-clear (now ((c .before .before .before .before .before .before .before .before .before .before .before .before .before .before .before .before .before .before) .args .file)) (rw ((c .before .before .before .before .before .before .before .before) .enum-told .given .1) at ((c .before .before .before .before .before .before .before .before .before .before) .faults-in .ensures))) ((c .before .before .before .before .before .before .before) .n-in .ensures .0) ((c .before .before .before .before .before .before) .e-in .ensures .0) ((c .before .before .before .before .before) .first-link-block .ensures) (link-room (now ((c .before .before .before .before .before .before .before .before .before .before .before .before .before .before .before .before .before .before) .args .groups)) (now ((c .before .before .before .before .before .before .before .before .before .before .before .before .before .before .before .before .before .before) .args .links)) (rw ((c .before .before .before .before .before .before .before .before .before .before .before) .if1 .left) at ((c .before .before .before .before .before .before .before .before .before .before .before .before) .lists-short .ensures)))
+fill-requires-2 c κs = links-fillable (now ((c .before .before .before .before .before .before .before .before .before .before .before .before .before .before .before .before .before .before) .args .file)) (blocks-clear (now ((c .before .before .before .before .before .before .before .before .before .before .before .before .before .before .before .before .before .before) .args .file)) (rw ((c .before .before .before .before .before .before .before .before) .enum-told .given .1) at ((c .before .before .before .before .before .before .before .before .before .before) .faults-in .ensures))) ((c .before .before .before .before .before .before .before) .n-in .ensures .0) ((c .before .before .before .before .before .before) .e-in .ensures .0) ((c .before .before .before .before .before) .first-link-block .ensures) (omega arith) (link-room (now ((c .before .before .before .before .before .before .before .before .before .before .before .before .before .before .before .before .before .before) .args .groups)) (now ((c .before .before .before .before .before .before .before .before .before .before .before .before .before .before .before .before .before .before) .args .links)) (rw ((c .before .before .before .before .before .before .before .before .before .before .before) .if1 .left) at ((c .before .before .before .before .before .before .before .before .before .before .before .before) .lists-short .ensures)))
 
 same-length-5 : tie.Need-same-length-5
 same-length-5 c = search needs
