@@ -4,4 +4,3 @@ pub mod Adding
 pub mod Balancing
 pub mod Outside
 pub mod RuleRows
-pub mod JudgementOne

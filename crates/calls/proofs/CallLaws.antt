@@ -6,13 +6,11 @@ use mathlib.Core.Logic.{_⊎_, inl, inr, ⊎-elim}
 use mathlib.Core.List.{List}
 use lib.ListN.{length}
 use Rattle.survey.specs.declared.answers.Refusal.{Refusal}
-use Rattle.survey.specs.declared.answers.Admission.{Admission}
 use Rattle.survey.specs.Limits.{groupLimit, linkLimit}
 use Rattle.survey.specs.Words.{entries, lent, surveyOf}
 use Rattle.survey.specs.Refusals.{Verdict, fine, refused, AllClear, Answers}
 use Rattle.survey.specs.Faults.{OneShort, callLists, listFaults, chooserFaults, Admitted}
-use Rattle.survey.specs.Answers.{admissionVerdict}
-use Rattle.survey.proofs.Verdicts.{past, fine-clear, answers-one}
+use Rattle.survey.proofs.Verdicts.{past, fine-clear}
 use Rattle.survey.proofs.GivenSurvey.{given-n, given-e}
 use Rattle.survey.specs.Sound.{Sound}
 use Rattle.survey.proofs.Admitted.{admitted-sound}
@@ -81,13 +79,3 @@ module _ (groups links marks amounts : List ℕ) where
 
         few-links : e ≤ linkLimit
         few-links = rw (given-e n e groups lent links lent) at (sound .links)
-
-    -- Two answers that are allowed are equal.
-    pub call-one : (r r′ : Admission) → Answers (chooserFaults n e groups links marks amounts) (admissionVerdict r) → Answers (chooserFaults n e groups links marks amounts) (admissionVerdict r′) → r ≡ r′
-    call-one r r′ a b = by-verdict r r′ (answers-one (chooserFaults n e groups links marks amounts) a b)
-      where
-        by-verdict : (r r′ : Admission) → admissionVerdict r ≡ admissionVerdict r′ → r ≡ r′
-        by-verdict (Admission.Refused r) (Admission.Refused r′) e = cc
-        by-verdict (Admission.Refused r) Admission.Admitted e = let z : _≡_ {A = ℕ} 0 1 = cc in absurd (omega arith)
-        by-verdict Admission.Admitted (Admission.Refused r′) e = let z : _≡_ {A = ℕ} 0 1 = cc in absurd (omega arith)
-        by-verdict Admission.Admitted Admission.Admitted e = refl

@@ -1,3 +1,2 @@
--- The laws behind the looks at links, and why their answer is one.
+-- The laws behind the looks at links.
 pub mod TestLaws
-pub mod AdmissionOne

@@ -19,11 +19,12 @@ use Rattle.survey.specs.Sets.{Same}
 use Rattle.survey.specs.Words.{entries, surveyAt, surveyOf, markedSet, amountsOf}
 use Rattle.survey.specs.Refusals.{Verdict, fine, refused, Clear, AllClear, Answers}
 use Rattle.survey.specs.Faults.{callLists, tooShort, listFaults, claimFaults, chooserFaults, checkerFaults}
-use Rattle.survey.specs.Answers.{choiceVerdict, judgementVerdict}
+use Rattle.survey.specs.Answers.{choiceVerdict}
 use Rattle.survey.specs.Promises.{Marked, AmountsPut, Chooses, ChosenLists, ChooserSays, CheckerSays}
 use Rattle.survey.proofs.SameSets.{same-refl}
 use Rattle.survey.proofs.Unique.{pick-one, rounds-one}
 use Rattle.survey.proofs.Verdicts.{answers-one, fine-clear, clear-fine, afterwards, past}
+use Rattle.survey.proofs.AnswersOne.{judgement-one}
 use Rattle.survey.proofs.Claims.{ClaimClear, accepted-clear}
 
 -- marks that are 0 or 1 and mark the same groups are the same marks
@@ -98,14 +99,7 @@ chooser-one {n} {e} {groups} {links} {marks} {amounts} {r} {r′} {m} {m′} {a}
 
 -- two judgements that the checker's promise allows are equal
 pub checker-one : {n e : ℕ} {groups links marks amounts : List ℕ} {r r′ : Judgement} → CheckerSays n e groups links marks amounts r → CheckerSays n e groups links marks amounts r′ → r ≡ r′
-checker-one {n} {e} {groups} {links} {marks} {amounts} {r} {r′} x y =
-    at r r′ (answers-one (checkerFaults n e groups links marks amounts) (x .verdict) (y .verdict))
-  where
-    at : (r r′ : Judgement) → judgementVerdict r ≡ judgementVerdict r′ → r ≡ r′
-    at (Judgement.Refused u) (Judgement.Refused v) q = cc
-    at (Judgement.Refused u) Judgement.Accepted q = absurd (apart refl q)
-    at Judgement.Accepted (Judgement.Refused v) q = absurd (apart q refl)
-    at Judgement.Accepted Judgement.Accepted q = refl
+checker-one {n} {e} {groups} {links} {marks} {amounts} {r} {r′} x y = judgement-one (checkerFaults n e groups links marks amounts) r r′ (x .verdict) (y .verdict)
 
 -- The chooser's own claim passes every row of the checker, for every survey that it picks from.
 pub own-accepted : {n e : ℕ} {groups links marks amounts : List ℕ} {rounds : ℕ} {m a : List ℕ} → ChooserSays n e groups links marks amounts (Choice.Chosen rounds) m a → Answers (checkerFaults n e groups links m a) fine

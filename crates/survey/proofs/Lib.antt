@@ -29,6 +29,7 @@ pub mod FewLinks
 pub mod GivenSurvey
 pub mod Standing
 pub mod SmallAnswers
+pub mod AnswersOne
 pub mod ReaderOne
 -- The drawings, decided by tests that compute.
 pub mod Deciding

@@ -20,16 +20,16 @@ word l i = getD l i 0 + 256 * getD l (i + 1) 0 + 65_536 * getD l (i + 2) 0 + 16_
 abbrev pub longWord : List ℕ → ℕ → ℕ
 longWord l i = word l i + 4_294_967_296 * word l (i + 4)
 
--- 9.5: the pairs of a file stand in its blocks, 62 to a block, each block's from word 2 on. Of a kind whose first block is this one, pair k stands in block ..
+-- 8.3: the pairs of a file stand in its blocks, 62 to a block, from word 2 of each on. Of the blocks from block first on, pair k stands in this one ..
 abbrev pub blockOfPair : ℕ → ℕ → ℕ
 blockOfPair first k = first + k / blockPairs
 
--- 9.5: .. and in it this is the first of its two words.
+-- 8.3: .. and in it this is the first of its two words.
 abbrev pub wordOfPair : ℕ → ℕ
 wordOfPair k = 2 + 2 * (k % blockPairs)
 
 -- 8.3: the byte that entry k begins at. In a lent list entries stand one after the other; in a file they stand as above, and a word is 4 bytes. Word w of
--- block b is defined in `SurveyFile`, and what a pair's two words are there is said in proofs/Standing.
+-- block b is defined in `SurveyFile`; that a pair's words are two of these is said in proofs/Standing, and so is the same place by a base and a gap.
 abbrev pub standsAt : Stand → ℕ → ℕ
 standsAt Lent k = entryBytes * k
 standsAt (Blocks first) k = blockBytes * blockOfPair first k + 4 * wordOfPair k
