@@ -14,7 +14,8 @@ refused-whole-requires c κs = search needs
 returns : tie.Need-returns
 returns c =
     let a = c .before .before .before .before .before .args in
-    refused-range (a .n) (a .e) (now (a .groups)) (a .group-stand) (now (a .links)) (a .link-stand) (rw (c .before .if1 .taken) at (c .before .before .out-of-range .ensures)) (c .refused-whole .ensures)
+    refused-range (a .n) (a .e) (now (a .groups)) (a .group-stand) (now (a .links)) (a .link-stand)
+    (rw (c .before .if1 .taken) at (c .before .before .out-of-range .ensures)) (c .refused-whole .ensures)
 
 first-above-limit-requires : tie.Need-first-above-limit-requires
 first-above-limit-requires c κs =
@@ -31,7 +32,9 @@ returns-2 : tie.Need-returns-2
 returns-2 c =
     let a = c .before .before .before .before .before .before .before .before .before .args in
     let above = rw (c .before .before .above .given .1) at (c .before .before .before .before .first-above-limit .ensures) in
-    refused-count (a .n) (a .e) (now (a .groups)) (a .group-stand) (now (a .links)) (a .link-stand) (rw (c .before .before .before .before .before .if1 .left) at (c .before .before .before .before .before .before .out-of-range .ensures)) above (c .refused .ensures)
+    refused-count (a .n) (a .e) (now (a .groups)) (a .group-stand) (now (a .links)) (a .link-stand)
+    (rw (c .before .before .before .before .before .if1 .left) at (c .before .before .before .before .before .before .out-of-range .ensures))
+    above (c .refused .ensures)
 
 enum-told : tie.Need-enum-told
 enum-told c = search needs
@@ -49,7 +52,9 @@ returns-3 c =
     let a = c .before .before .before .before .before .before .before .before .before .before .before .args in
     let counts = rw (c .before .before .before .before .enum-told .given .1) at (c .before .before .before .before .before .before .first-above-limit .ensures) in
     let by-links = rw (c .before .by-links .given .1) at (c .before .before .before .admit-links .ensures) in
-    refused-links (a .n) (a .e) (now (a .groups)) (a .group-stand) (now (a .links)) (a .link-stand) (rw (c .before .before .before .before .before .before .before .if1 .left) at (c .before .before .before .before .before .before .before .before .out-of-range .ensures)) counts by-links
+    refused-links (a .n) (a .e) (now (a .groups)) (a .group-stand) (now (a .links)) (a .link-stand)
+    (rw (c .before .before .before .before .before .before .before .if1 .left) at (c .before .before .before .before .before .before .before .before .out-of-range .ensures))
+    counts by-links
 
 enum-told-2 : tie.Need-enum-told-2
 enum-told-2 c = search needs
@@ -67,14 +72,18 @@ returns-4 c =
     let a = c .before .before .before .before .before .before .before .before .before .before .before .before .before .args in
     let counts = rw (c .before .before .before .before .before .before .enum-told .given .1) at (c .before .before .before .before .before .before .before .before .first-above-limit .ensures) in
     let by-links = rw (c .before .before .before .enum-told2 .given .1) at (c .before .before .before .before .before .admit-links .ensures) in
-    refused-dead (a .n) (a .e) (now (a .groups)) (a .group-stand) (now (a .links)) (a .link-stand) (rw (c .before .before .before .before .before .before .before .before .before .if1 .left) at (c .before .before .before .before .before .before .before .before .before .before .out-of-range .ensures)) counts by-links (rw (c .before .if2 .taken) at (c .before .before .none-dead .ensures)) (c .refused-whole2 .ensures)
+    refused-dead (a .n) (a .e) (now (a .groups)) (a .group-stand) (now (a .links)) (a .link-stand)
+    (rw (c .before .before .before .before .before .before .before .before .before .if1 .left) at (c .before .before .before .before .before .before .before .before .before .before .out-of-range .ensures))
+    counts by-links (rw (c .before .if2 .taken) at (c .before .before .none-dead .ensures)) (c .refused-whole2 .ensures)
 
 returns-5 : tie.Need-returns-5
 returns-5 c =
     let a = c .before .before .before .before .before .before .before .before .before .before .before .before .args in
     let counts = rw (c .before .before .before .before .before .enum-told .given .1) at (c .before .before .before .before .before .before .before .first-above-limit .ensures) in
     let by-links = rw (c .before .before .enum-told2 .given .1) at (c .before .before .before .before .admit-links .ensures) in
-    admitted (a .n) (a .e) (now (a .groups)) (a .group-stand) (now (a .links)) (a .link-stand) (rw (c .before .before .before .before .before .before .before .before .if1 .left) at (c .before .before .before .before .before .before .before .before .before .out-of-range .ensures)) counts by-links (rw (c .if2 .left) at (c .before .none-dead .ensures))
+    admitted (a .n) (a .e) (now (a .groups)) (a .group-stand) (now (a .links)) (a .link-stand)
+    (rw (c .before .before .before .before .before .before .before .before .if1 .left) at (c .before .before .before .before .before .before .before .before .before .out-of-range .ensures))
+    counts by-links (rw (c .if2 .left) at (c .before .none-dead .ensures))
 
 pub admit-spec : {M : Type 1} → statement M
 admit-spec =

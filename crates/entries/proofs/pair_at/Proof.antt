@@ -17,7 +17,9 @@ enum-told c = search needs
 in-list : (c : tie.After-enum-told) → EntryWithin (now (c .before .before .before .args .b)) lent (c .before .before .before .args .k)
 in-list c = rw (c .enum-told .given .1) at (c .before .before .before .pre)
 
-in-file : (c : tie.After-known-told) → EntryWithin (now (c .before .before .before .before .args .b)) (inBlocks (c .before .stand .given .0 .0)) (c .before .before .before .before .args .k)
+in-file :
+    (c : tie.After-known-told)
+    → EntryWithin (now (c .before .before .before .before .args .b)) (inBlocks (c .before .stand .given .0 .0)) (c .before .before .before .before .args .k)
 in-file c = rw (c .before .stand .given .1) at (c .before .before .before .before .pre)
 
 mul-word-at : tie.Need-mul-word-at
