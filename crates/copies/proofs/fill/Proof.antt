@@ -36,10 +36,9 @@ loop-again c =
     let filled = c .before .before .before .before .before .before .loop .inv .0 in
     let taken = c .before .before .before .before .before .loop-test .taken in
     let room = c .before .before .before .before .before .before .before .before .before .pre .room in
-    let small = c .before .before .before .before .before .before .before .shared-slice-known .given in (
-      filled-more filled (copied (bytes-of _ small) (omega (arith, room, filled .long, taken)) (c .before .before .before .before .pair-at .ensures) (c .before .before .put-pair .ensures)),
-      omega arith,
-    )
+    let small = c .before .before .before .before .before .before .before .shared-slice-known .given in
+    let read = c .before .before .before .before .pair-at .ensures in
+    (filled-more filled (copied (bytes-of _ small) (omega (arith, room, filled .long, taken)) read (c .before .before .put-pair .ensures)), omega arith)
 
 same-length : tie.Need-same-length Inv-loop μ-loop
 same-length c = c .before .loop .inv .0 .long
