@@ -5,9 +5,9 @@ use mathlib.Core.Logic.{_⊎_}
 use mathlib.Core.List.{List}
 use lib.ListN.{length, getD}
 use Rattle.survey.specs.Limits.{entryBytes}
-use Rattle.survey.specs.Words.{blockOfPair}
-use Rattle.views.specs.Views.{Within}
+use Rattle.survey.specs.SurveyFile.{inBlocks}
 use Rattle.entries.specs.declared.Pair.{Pair}
+use Rattle.entries.specs.Entries.{EntryWithin}
 
 -- a pair as one long word, its first word the low one
 abbrev pub bothWords : Pair → ℕ
@@ -22,4 +22,4 @@ pub record Copied (before after : List ℕ) (i : ℕ) (f : List ℕ) (j : ℕ) :
 -- The list has room for so many pairs, and the file has the blocks that they stand in.
 pub record Fillable (list : List ℕ) (count : ℕ) (f : List ℕ) (start : ℕ) : Type 0 where
   pub room : entryBytes * count ≤ length list
-  pub within : (k : ℕ) → k < count → Within f (blockOfPair start k)
+  pub within : (k : ℕ) → k < count → EntryWithin f (inBlocks start) k

@@ -1,6 +1,7 @@
 // The pairs of a file, which stand in its blocks, copied into a lent list, where they stand one after the other. Each is read through the view of its block.
 use entries::Pair;
-use entries::block_pair;
+use entries::pair_at;
+use survey::stands::Stand;
 use words::put_long_word;
 ghost use Prim.Native.Nat.{_+_, _*_, _≤_};
 ghost use mathlib.Core.Path.{_≡_};
@@ -29,7 +30,7 @@ pub fn fill(list: &mut [u8], count: usize, file: &[u8], start: usize)
 {
     let mut k = 0;
     while k < count {
-        let pair = block_pair(file, start, k);
+        let pair = pair_at(file, Stand::Blocks(start), k);
         put_pair(list, k, pair);
         k += 1;
     }

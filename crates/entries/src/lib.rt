@@ -9,10 +9,8 @@ use words::long_word_at;
 use words::put_long_word;
 use words::word_at;
 ghost use mathlib.Core.Path.{_≡_};
-ghost use Rattle.survey.specs.Words.{blockOfPair, lent, entries, groupAt, linkAt, amountsOf};
-ghost use Rattle.survey.specs.SurveyFile.{inBlocks};
+ghost use Rattle.survey.specs.Words.{lent, entries, groupAt, linkAt, amountsOf};
 ghost use Rattle.counts.specs.Counts.{GroupIs};
-ghost use Rattle.views.specs.Views.{Within};
 ghost use Rattle.entries.specs.Entries.{EntryWithin, PairIs, LinkIs, withAmount};
 
 // The two words of an entry.
@@ -26,39 +24,20 @@ pub struct Link {
     pub to: usize,
 }
 
-// Entry k of a lent list.
-fn lent_pair(b: &[u8], k: usize) -> Pair
-    requires { ⌜ EntryWithin (now b) lent k ⌝ }
-    ensures { λ r. ⌜ PairIs r (now (b .entry)) lent k ⌝ }
-{
-    let at = 8 * k;
-    Pair {
-        first: word_at(b, at),
-        second: word_at(b, at + 4),
-    }
-}
-
-// Pair k of the blocks from block start on: 62 to a block, from its word 2 on.
-pub fn block_pair(file: &[u8], start: usize, k: usize) -> Pair
-    requires { ⌜ Within (now file) (blockOfPair start k) ⌝ }
-    ensures { λ r. ⌜ PairIs r (now (file .entry)) (inBlocks start) k ⌝ }
-{
-    let b = start + k / 62;
-    let w = 2 + 2 * (k % 62);
-    Pair {
-        first: block_word(file, b, w),
-        second: block_word(file, b, w + 1),
-    }
-}
-
-// Entry k, wherever it stands.
-fn pair_at(b: &[u8], stand: Stand, k: usize) -> Pair
+// Entry k, wherever it stands: in a lent list by its bytes, and in a file, 62 to a block, through the view of its block.
+pub fn pair_at(b: &[u8], stand: Stand, k: usize) -> Pair
     requires { ⌜ EntryWithin (now b) stand k ⌝ }
     ensures { λ r. ⌜ PairIs r (now (b .entry)) stand k ⌝ }
 {
     match stand {
-        Stand::Lent => lent_pair(b, k),
-        Stand::Blocks(start) => block_pair(b, start, k),
+        Stand::Lent => Pair {
+            first: word_at(b, 8 * k),
+            second: word_at(b, 8 * k + 4),
+        },
+        Stand::Blocks(start) => Pair {
+            first: block_word(b, start + k / 62, 2 + 2 * (k % 62)),
+            second: block_word(b, start + k / 62, 2 + 2 * (k % 62) + 1),
+        },
     }
 }
 

@@ -1,6 +1,6 @@
 // The view of a block (Specification 9): the block's bytes, where they were lent, and its number. No function over a struct that holds a reference is covered
 // by the borrow checker, so these are few and thin, each proved by hand over a covered function on a slice. All other code reads a file by `block_word`,
-// `block_check` and `block_numbered`, whose parameters are plain, entries too (`entries::block_pair`): no word of a file is read past the view.
+// `block_check` and `block_numbered`, whose parameters are plain, entries too (`entries::pair_at`): no word of a file is read past the view.
 use words::word_at;
 ghost use mathlib.Core.Path.{_≡_};
 ghost use Prim.Native.Nat.{_+_, _*_, _≤_, _<_};

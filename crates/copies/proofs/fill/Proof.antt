@@ -18,8 +18,8 @@ abbrev μ-loop : tie.MeasureT-loop
 loop-holds : tie.Need-loop-holds Inv-loop μ-loop
 loop-holds c = (filled-none, omega arith)
 
-block-pair-requires : tie.Need-block-pair-requires Inv-loop μ-loop
-block-pair-requires c κs = c .before .before .before .before .pre .within _ (c .loop-test .taken)
+pair-at-requires : tie.Need-pair-at-requires Inv-loop μ-loop
+pair-at-requires c κs = c .before .before .before .before .pre .within _ (c .loop-test .taken)
 
 put-pair-requires : tie.Need-put-pair-requires Inv-loop μ-loop
 put-pair-requires c κs =
@@ -36,10 +36,9 @@ loop-again c =
     let filled = c .before .before .before .before .before .before .loop .inv .0 in
     let taken = c .before .before .before .before .before .loop-test .taken in
     let room = c .before .before .before .before .before .before .before .before .before .pre .room in
-    let small = c .before .before .before .before .before .before .before .shared-slice-known .given in (
-      filled-more filled (copied (bytes-of _ small) (omega (arith, room, filled .long, taken)) (c .before .before .before .before .block-pair .ensures) (c .before .before .put-pair .ensures)),
-      omega arith,
-    )
+    let small = c .before .before .before .before .before .before .before .shared-slice-known .given in
+    let read = c .before .before .before .before .pair-at .ensures in
+    (filled-more filled (copied (bytes-of _ small) (omega (arith, room, filled .long, taken)) read (c .before .before .put-pair .ensures)), omega arith)
 
 same-length : tie.Need-same-length Inv-loop μ-loop
 same-length c = c .before .loop .inv .0 .long
@@ -56,7 +55,7 @@ fill-spec =
     Inv-loop
     μ-loop
     loop-holds
-    block-pair-requires
+    pair-at-requires
     put-pair-requires
     add-k
     loop-less

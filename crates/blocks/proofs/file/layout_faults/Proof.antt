@@ -47,7 +47,9 @@ enum-told : tie.Need-enum-told
 enum-told c = search needs
 
 first-bad-unused-requires : tie.Need-first-bad-unused-requires
-first-bad-unused-requires c κs = (c .before .before .before .before .before .before .before .before .before .before .pre, found-missing (c .before .before .first-bad-kind .result) (c .enum-told .given .1) (c .before .before .first-bad-kind .ensures))
+first-bad-unused-requires c κs =
+    let kinds = found-missing (c .before .before .first-bad-kind .result) (c .enum-told .given .1) (c .before .before .first-bad-kind .ensures) in
+    (c .before .before .before .before .before .before .before .before .before .before .pre, kinds)
 
 enum-known-b-2 : tie.Need-enum-known-b-2
 enum-known-b-2 c = search needs
