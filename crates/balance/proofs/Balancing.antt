@@ -25,6 +25,11 @@ use Rattle.weights.proofs.PutLaws.{plus-put, minus-put, sound-puttable}
 use Rattle.balance.specs.Rule.{RuleAsks}
 use Rattle.balance.specs.Balances.{fromOf, toOf, amountsAt, Takes, AmountsAsk, AmountsAdded, BalanceLists, BalancesPut}
 
+-- each group has its place in the list, and what stands there is at most what one half of a weight comes to
+pub record Holds (n : ℕ) (list : List ℕ) : Type 0 where
+  pub long : n ≤ length list
+  pub small : (g : ℕ) → g < n → getD list g 0 ≤ countLimit * sumLimit
+
 module _ (n e : ℕ) (groups links : List ℕ) where
   -- ---- the links of the survey are those of the list
 
@@ -68,7 +73,7 @@ module _ (n e : ℕ) (groups links : List ℕ) where
 
     -- ---- weights and then amounts
 
-    module _ (a : Amounts) (small : (k : ℕ) → k < e → a k ≤ amountLimit) (S : Set) where
+    module _ (a : Amounts) (small : (k : ℕ) → k < e → a k ≤ amountLimit) where
       gets-small : (g : ℕ) → amountsAt (fromOf links) a e g ≤ groupLimit * amountLimit
       unfolding surveyAt
       gets-small g = rw (gets-at a g) at (gets-fit x a small g)
@@ -77,18 +82,18 @@ module _ (n e : ℕ) (groups links : List ℕ) where
       unfolding surveyAt
       pays-small g = rw (pays-at a g) at (pays-fit x a small g)
 
-      takes-from : {credits : List ℕ} → n ≤ length credits → ((g : ℕ) → g < n → getD credits g 0 ≡ weights (surveyOf n e groups links) S .plus g) → Takes (fromOf links) a e credits
-      takes-from long put =
+      takes-from : {list : List ℕ} → Holds n list → Takes (fromOf links) a e list
+      takes-from h =
           record {
-            within = λ k l. omega (arith, from-below k l);
-            fits = λ k l. omega (arith, gets-small (fromOf links k), put (fromOf links k) (from-below k l), plus-small S (fromOf links k) (from-below k l));
+            within = λ k l. omega (arith, from-below k l, h .long);
+            fits = λ k l. omega (arith, gets-small (fromOf links k), h .small (fromOf links k) (from-below k l));
           }
 
-      takes-to : {debits : List ℕ} → n ≤ length debits → ((g : ℕ) → g < n → getD debits g 0 ≡ weights (surveyOf n e groups links) S .minus g) → Takes (toOf links) a e debits
-      takes-to long put =
+      takes-to : {list : List ℕ} → Holds n list → Takes (toOf links) a e list
+      takes-to h =
           record {
-            within = λ k l. omega (arith, to-below k l);
-            fits = λ k l. omega (arith, pays-small (toOf links k), put (toOf links k) (to-below k l), minus-small S (toOf links k) (to-below k l));
+            within = λ k l. omega (arith, to-below k l, h .long);
+            fits = λ k l. omega (arith, pays-small (toOf links k), h .small (toOf links k) (to-below k l));
           }
 
 -- ---- of an admitted call
@@ -99,46 +104,58 @@ module _ {n e : ℕ} {groups links marks amounts : List ℕ} (x : AdmittedCall n
 
 -- ---- of a claim whose balances are put
 
-module _ {n e d l : ℕ} {groups links marks amounts : List ℕ} (p : RuleAsks n e groups links marks amounts d) (is : l ≡ L (groupsOf n groups) (markedSet marks)) {credits₀ debits₀ : List ℕ} (room : BalanceLists n credits₀ debits₀) where
-  pub puttable : Puttable n groups d l credits₀ debits₀
-  puttable = sound-puttable n e groups links (p .call .sound) (p .call .groups-long) (markedSet marks) (p .dead) is (room .credits-long) (room .debits-long)
+module _ {n e d : ℕ} {groups links marks amounts : List ℕ} (p : RuleAsks n e groups links marks amounts d) where
+  -- Either list can take the amounts by either end.
+  pub amounts-ask : {list list′ : List ℕ} → Holds n list → Holds n list′ → AmountsAsk e links amounts list list′
+  amounts-ask h h′ =
+      record {
+        links-long = p .call .links-long;
+        amounts-long = p .call .amounts-long;
+        from = takes-from n e groups links (p .call .sound) (amountsOf amounts) (p .small) h;
+        to = takes-to n e groups links (p .call .sound) (amountsOf amounts) (p .small) h′;
+      }
 
-  module _ {credits debits : List ℕ} (w : WeightsPut n groups d l credits₀ debits₀ credits debits) where
-    put : WeightsPut n groups (D (groupsOf n groups) (markedSet marks)) (L (groupsOf n groups) (markedSet marks)) credits₀ debits₀ credits debits
-    put = rw (p .dead, is) at w
+  module _ {l : ℕ} (is : l ≡ L (groupsOf n groups) (markedSet marks)) {credits₀ debits₀ : List ℕ} (room : BalanceLists n credits₀ debits₀) where
+    pub puttable : Puttable n groups d l credits₀ debits₀
+    puttable = sound-puttable n e groups links (p .call .sound) (p .call .groups-long) (markedSet marks) (p .dead) is (room .credits-long) (room .debits-long)
 
-    pub amounts-ask : AmountsAsk e links amounts credits debits
-    amounts-ask =
-        record {
-          links-long = p .call .links-long;
-          amounts-long = p .call .amounts-long;
-          from =
-              takes-from n e groups links (p .call .sound) (amountsOf amounts) (p .small) (markedSet marks)
-              (omega (arith, w .pluses .long, room .credits-long)) (plus-put e links (markedSet marks) put);
-          to =
-              takes-to n e groups links (p .call .sound) (amountsOf amounts) (p .small) (markedSet marks)
-              (omega (arith, w .minuses .long, room .debits-long)) (minus-put e links (markedSet marks) put);
-        }
+    module _ {credits debits : List ℕ} (w : WeightsPut n groups d l credits₀ debits₀ credits debits) where
+      put : WeightsPut n groups (D (groupsOf n groups) (markedSet marks)) (L (groupsOf n groups) (markedSet marks)) credits₀ debits₀ credits debits
+      put = rw (p .dead, is) at w
 
-    pub balances-put : {credits′ debits′ : List ℕ} → AmountsAdded e links amounts credits debits credits′ debits′ → BalancesPut n e groups links marks amounts credits₀ debits₀ credits′ debits′
-    balances-put a =
-        record {
-          credits-long = a .from .long ∙ w .pluses .long;
-          debits-long = a .to .long ∙ w .minuses .long;
-          credit-at =
-              λ g h.
-              omega (
-                arith,
-                a .from .at g (omega (arith, w .pluses .long, room .credits-long)),
-                plus-put e links (markedSet marks) put g h,
-                gets-at n e groups links (amountsOf amounts) g,
-              );
-          debit-at =
-              λ g h.
-              omega (
-                arith,
-                a .to .at g (omega (arith, w .minuses .long, room .debits-long)),
-                minus-put e links (markedSet marks) put g h,
-                pays-at n e groups links (amountsOf amounts) g,
-              );
-        }
+      pub credits-hold : Holds n credits
+      credits-hold =
+          record {
+            long = omega (arith, w .pluses .long, room .credits-long);
+            small = λ g h. omega (arith, plus-put e links (markedSet marks) put g h, plus-small n e groups links (p .call .sound) (markedSet marks) g h);
+          }
+
+      pub debits-hold : Holds n debits
+      debits-hold =
+          record {
+            long = omega (arith, w .minuses .long, room .debits-long);
+            small = λ g h. omega (arith, minus-put e links (markedSet marks) put g h, minus-small n e groups links (p .call .sound) (markedSet marks) g h);
+          }
+
+      pub balances-put : {credits′ debits′ : List ℕ} → AmountsAdded e links amounts credits debits credits′ debits′ → BalancesPut n e groups links marks amounts credits₀ debits₀ credits′ debits′
+      balances-put a =
+          record {
+            credits-long = a .from .long ∙ w .pluses .long;
+            debits-long = a .to .long ∙ w .minuses .long;
+            credit-at =
+                λ g h.
+                omega (
+                  arith,
+                  a .from .at g (omega (arith, w .pluses .long, room .credits-long)),
+                  plus-put e links (markedSet marks) put g h,
+                  gets-at n e groups links (amountsOf amounts) g,
+                );
+            debit-at =
+                λ g h.
+                omega (
+                  arith,
+                  a .to .at g (omega (arith, w .minuses .long, room .debits-long)),
+                  minus-put e links (markedSet marks) put g h,
+                  pays-at n e groups links (amountsOf amounts) g,
+                );
+          }

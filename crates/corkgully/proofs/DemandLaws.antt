@@ -128,7 +128,7 @@ module _ {n e : ℕ} {groups links marks amounts marks′ amounts′ : List ℕ}
       at (Choice.Chosen rounds) q s = pick-given q (s .lists)
 
   chosen : Succeeds x → (r : Choice) → x ≡ choiceNumber r → ChooserSays n e groups links marks amounts r marks′ amounts′ → (k : ℕ) × ChooserSays n e groups links marks amounts (Choice.Chosen k) marks′ amounts′
-  chosen z (Choice.Refused r) q s = absurd (no-success r (choice-small n e groups links marks amounts (Choice.Refused r) s) q z)
+  chosen z (Choice.Refused r) q s = absurd (no-success r (choice-small (Choice.Refused r) s) q z)
   chosen z (Choice.Chosen k) q s = (k, s)
 
   pub picked-admitted : Succeeds x → Admitted (surveyOf n e groups links)
@@ -197,7 +197,7 @@ module _ {n e : ℕ} {groups links marks amounts : List ℕ} {x : ℕ} (a : Chec
   zero-accepted z = at (a .judgement) (a .is) (a .says)
     where
       at : (r : Judgement) → x ≡ judgementNumber r → CheckerSays n e groups links marks amounts r → CheckerSays n e groups links marks amounts Judgement.Accepted
-      at (Judgement.Refused r) q s = absurd (no-success r (judgement-small n e groups links marks amounts (Judgement.Refused r) s) q (rw z refl))
+      at (Judgement.Refused r) q s = absurd (no-success r (judgement-small (Judgement.Refused r) s) q (rw z refl))
       at Judgement.Accepted q s = s
 
   pub acceptable-zero : Acceptable n e groups links marks amounts → x ≡ 0

@@ -81,12 +81,12 @@ pub choose-answer-one :
     {n e n₂ e₂ : ℕ} {groups links marks amounts groups₂ links₂ marks₂ amounts₂ : List ℕ} {x : ℕ} {m c m₂ c₂ : List ℕ}
     (a : ChooseNumber n e groups links marks amounts x m c) (b : ChooseNumber n₂ e₂ groups₂ links₂ marks₂ amounts₂ x m₂ c₂) → a .choice ≡ b .choice
 choose-answer-one {n} {e} {n₂} {e₂} {groups} {links} {marks} {amounts} {groups₂} {links₂} {marks₂} {amounts₂} a b =
-    choice-number-one (a .choice) (b .choice) (choice-small n e groups links marks amounts (a .choice) (a .says))
-    (choice-small n₂ e₂ groups₂ links₂ marks₂ amounts₂ (b .choice) (b .says)) (sym (a .is) ∙ b .is)
+    choice-number-one (a .choice) (b .choice) (choice-small (a .choice) (a .says))
+    (choice-small (b .choice) (b .says)) (sym (a .is) ∙ b .is)
 
 pub check-answer-one :
     {n e n₂ e₂ : ℕ} {groups links marks amounts groups₂ links₂ marks₂ amounts₂ : List ℕ} {x : ℕ} (a : CheckNumber n e groups links marks amounts x)
     (b : CheckNumber n₂ e₂ groups₂ links₂ marks₂ amounts₂ x) → a .judgement ≡ b .judgement
 check-answer-one {n} {e} {n₂} {e₂} {groups} {links} {marks} {amounts} {groups₂} {links₂} {marks₂} {amounts₂} a b =
-    judgement-number-one (a .judgement) (b .judgement) (judgement-small n e groups links marks amounts (a .judgement) (a .says))
-    (judgement-small n₂ e₂ groups₂ links₂ marks₂ amounts₂ (b .judgement) (b .says)) (sym (a .is) ∙ b .is)
+    judgement-number-one (a .judgement) (b .judgement) (judgement-small (a .judgement) (a .says))
+    (judgement-small (b .judgement) (b .says)) (sym (a .is) ∙ b .is)

@@ -30,7 +30,7 @@ pub fn cost(g: Group) -> Live
     g.live
 }
 
-pub fn cross(l: Live, d: Dead) -> u64
+fn cross(l: Live, d: Dead) -> u64
     requires { ⌜ (l .0 ≤ sumLimit) × (d .0 ≤ sumLimit) ⌝ }
     ensures { λ r. ⌜ r ≡ l .0 * d .0 ⌝ }
 {

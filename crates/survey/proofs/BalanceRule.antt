@@ -1,8 +1,8 @@
 -- The balance rule decides, whoever wrote the amounts: what it accepts is the pick (docs/MATHEMATICS.md, 6).
 use Prim.Native.Nat.{ℕ, _+_, _-_, _*_, _≤_, _<_}
-use native.Mathlib.Nat.{mul-comm, mul-pos, zero-mul}
+use native.Mathlib.Nat.{mul-comm, mul-pos}
 use native.Mathlib.Omega.{arith}
-use mathlib.Core.Path.{_≡_, refl}
+use mathlib.Core.Path.{_≡_, refl, ap}
 use Rattle.survey.specs.Survey.{Survey}
 use Rattle.survey.specs.Sets.{Set, In, Closed, Eligible, Contains, total, deadOf, costOf, D, L}
 use Rattle.survey.specs.Pick.{Candidate, BetterSet, Best, IsPick}
@@ -21,7 +21,8 @@ weighs-minus s C B = total-mul s (costOf s) (D s C) B
 
 -- Specification 5.2: a candidate with nothing live beats each one with something live.
 pub nothing-live-better : {s : Survey} {A B : Set} → Candidate s A → Candidate s B → L s A ≡ 0 → 0 < L s B → BetterSet s A B
-nothing-live-better {s} {A} {B} a b z p = rw z (omega (arith, zero-mul (D s B), mul-pos p (a .dead)))
+nothing-live-better {s} {A} {B} a b z p =
+    omega (arith, ap (λ (l : ℕ). l * D s A) z, ap (λ (l : ℕ). l * D s B) z, mul-pos p (a .dead), mul-pos p (b .dead))
 
 module _ {s : Survey} (i : Inside s) (S : Set) (a : Amounts) (none : (g : ℕ) → g < s .n → BalanceAbove0 s (weights s S) a g → ⊥) where
   -- no balance is above 0, so what a closed set weighs falls short by what leaves it and by what its balances lack

@@ -32,6 +32,14 @@ contains-both {s} {A} {B} c d = record { at = λ g l. equal-tests (A g) (B g) (c
 pub contains-same : {s : Survey} {A A′ B B′ : Set} → Same s A A′ → Same s B B′ → Contains s A B → Contains s A′ B′
 contains-same d e c = record { has = λ g l h. sym (d .at g l) ∙ c .has g l (e .at g l ∙ h) }
 
+-- Whichever of two sets contains the other, one of them may be told by the same groups.
+module _ {s : Survey} {A B : Set} (e : Same s A B) (C : Set) where
+  holds-same : Contains s A C → Contains s B C
+  holds-same c = contains-same e same-refl c
+
+  held-same : Contains s C A → Contains s C B
+  held-same c = contains-same same-refl e c
+
 -- ---- sums
 
 module _ {s : Survey} {A B : Set} (e : Same s A B) where
@@ -50,13 +58,13 @@ pub zero-same : {s : Survey} {A B : Set} (w : Weights) → Same s A B → Weighs
 zero-same w e h = omega (arith, total-same e (w .plus), total-same e (w .minus))
 
 pub better-same : {s : Survey} {A A′ B B′ : Set} → Same s A A′ → Same s B B′ → BetterSet s A B → BetterSet s A′ B′
-better-same {s} d e h = rw (← total-same d (deadOf s), ← total-same d (costOf s), ← total-same e (deadOf s), ← total-same e (costOf s)) h
+better-same d e h = simp (total-same (same-sym d), total-same (same-sym e)) h
 
 -- ---- the sets that are defined, of a survey whose links end in groups
 
 module _ {s : Survey} (i : Inside s) {A B : Set} (e : Same s A B) where
   pub closed-same : Closed s A → Closed s B
-  closed-same c = record { back = λ k l h. sym (e .at _ (i .from k l)) ∙ c .back k l (e .at _ (i .to k l) ∙ h) }
+  closed-same c = record { back = λ k l. rw (e .at _ (i .from k l), e .at _ (i .to k l)) at (c .back k l) }
 
   pub eligible-same : Eligible s A → Eligible s B
   eligible-same c = record { closed = closed-same (c .closed) }
@@ -68,14 +76,14 @@ module _ {s : Survey} (i : Inside s) {A B : Set} (e : Same s A B) where
   best-same b = record { candidate = candidate-same (b .candidate); unbeaten = λ C c h. b .unbeaten C c (better-same same-refl (same-sym e) h) }
 
   pub pick-same : IsPick s A → IsPick s B
-  pick-same p = record { best = best-same (p .best); contains = λ C c. contains-same e same-refl (p .contains C c) }
+  pick-same p = record { best = best-same (p .best); contains = λ C c. search (holds-same e C, held-same e C, p .contains C c) }
 
   module _ {w : Weights} where
     pub greatest-same : Greatest s w A → Greatest s w B
     greatest-same g = record { eligible = eligible-same (g .eligible); most = λ C c. weighs-same w same-refl e (g .most C c) }
 
     pub heaviest-same : Heaviest s w A → Heaviest s w B
-    heaviest-same h = record { greatest = greatest-same (h .greatest); largest = λ C c. contains-same e same-refl (h .largest C c) }
+    heaviest-same h = record { greatest = greatest-same (h .greatest); largest = λ C c. search (holds-same e C, held-same e C, h .largest C c) }
 
     module _ {a : Amounts} where
       pub settled-same : Settled s w a A → Settled s w a B
@@ -87,7 +95,7 @@ module _ {s : Survey} (i : Inside s) {A B : Set} (e : Same s A B) where
           }
 
       pub largest-settled-same : LargestSettled s w a A → LargestSettled s w a B
-      largest-settled-same x = record { settled = settled-same (x .settled); largest = λ C c. contains-same e same-refl (x .largest C c) }
+      largest-settled-same x = record { settled = settled-same (x .settled); largest = λ C c. search (holds-same e C, held-same e C, x .largest C c) }
 
 -- ---- rounds: from the same groups, and to the same groups
 

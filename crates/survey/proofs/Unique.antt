@@ -11,13 +11,13 @@ use Rattle.survey.proofs.SameSets.{same-sym, contains-both, weights-sam
 module _ {s : Survey} {A B : Set} where
   -- Specification 5.4: no survey has two picks.
   pub pick-one : IsPick s A → IsPick s B → Same s A B
-  pick-one a b = contains-both (a .contains B (b .best)) (b .contains A (a .best))
+  pick-one a b = search (contains-both, a .contains B (b .best), b .contains A (a .best))
 
   pub heaviest-one : {w : Weights} → Heaviest s w A → Heaviest s w B → Same s A B
-  heaviest-one a b = contains-both (a .largest B (b .greatest)) (b .largest A (a .greatest))
+  heaviest-one a b = search (contains-both, a .largest B (b .greatest), b .largest A (a .greatest))
 
   pub largest-settled-one : {w : Weights} {a : Amounts} → LargestSettled s w a A → LargestSettled s w a B → Same s A B
-  largest-settled-one a b = contains-both (a .largest B (b .settled)) (b .largest A (a .settled))
+  largest-settled-one a b = search (contains-both, a .largest B (b .settled), b .largest A (a .settled))
 
 -- From the same groups, a round comes to the same groups, and both weigh 0 or neither does.
 module _ {s : Survey} {C C′ S S′ : Set} (e : Same s C C′) (h : Heaviest s (weights s C) S) (h′ : Heaviest s (weights s C′) S′) where

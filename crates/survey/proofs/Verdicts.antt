@@ -54,8 +54,8 @@ pub lowest-one : {f : Fault} {j k : ℕ} → Lowest f j → Lowest f k → j ≡
 lowest-one {f} {j} {k} a b = go (decLt j k) (decLt k j)
   where
     go : Dec (j < k) → Dec (k < j) → j ≡ k
-    go (yes l) d = absurd (b .first j l (a .fault))
-    go (no m) (yes l) = absurd (a .first k l (b .fault))
+    go (yes l) d = absurd (search (a .first k, b .first j, a .fault, b .fault))
+    go (no m) (yes l) = absurd (search (a .first k, b .first j, a .fault, b .fault))
     go (no m) (no l) = omega arith
 
 given-one : {f : Fault} {v v′ : Verdict} → Given f v → Given f v′ → v ≡ v′

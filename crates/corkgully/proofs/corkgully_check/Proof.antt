@@ -1,5 +1,4 @@
 -- `corkgully::corkgully_check` meets its contract. The checker's answer fits its number. Assumes nothing.
-use denote.Ref.{now}
 use Rattle.corkgully.proofs.Fit.{judgement-small}
 use borrow.Author.Needs.{needs}
 use Rattle.corkgully.proofs.corkgully_check.Statement.{statement}
@@ -9,7 +8,7 @@ check-requires : tie.Need-check-requires
 check-requires c κs = search needs
 
 judgement-number-requires : tie.Need-judgement-number-requires
-judgement-number-requires c κs = judgement-small ((c .before .before .before .before .before) .args .n) ((c .before .before .before .before .before) .args .e) (now ((c .before .before .before .before .before) .args .groups)) (now ((c .before .before .before .before .before) .args .links)) (now ((c .before .before .before .before .before) .args .marks)) (now ((c .before .before .before .before .before) .args .amounts)) (c .check .result) (c .check .ensures)
+judgement-number-requires c κs = judgement-small (c .check .result) (c .check .ensures)
 
 returns : tie.Need-returns
 returns c = record { judgement = (c .before) .check .result; says = (c .before) .check .ensures; is = c .judgement-number .ensures }

@@ -1,6 +1,5 @@
 -- `corkgully::corkgully_choose` meets its contract. The chooser's answer fits its number: there are at most as many rounds as groups. Assumes nothing.
 use Rattle.corkgully.proofs.Fit.{choice-small}
-use denote.Ref.{now}
 use borrow.Author.Needs.{needs}
 use Rattle.corkgully.proofs.corkgully_choose.Statement.{statement}
 use Rattle.corkgully.proofs.corkgully_choose.Tie as tie
@@ -9,7 +8,7 @@ choose-requires : tie.Need-choose-requires
 choose-requires c κs = search needs
 
 choice-number-requires : tie.Need-choice-number-requires
-choice-number-requires c κs = choice-small ((c .before .before .before .before .before .before .before .before .before .before .before) .args .n) ((c .before .before .before .before .before .before .before .before .before .before .before) .args .e) (now ((c .before .before .before .before .before .before .before .before .before .before .before) .args .groups)) (now ((c .before .before .before .before .before .before .before .before .before .before .before) .args .links)) (now ((c .before .before .before .before .before .before .before .before .before .before .before) .args .marks)) (now ((c .before .before .before .before .before .before .before .before .before .before .before) .args .amounts)) ((c .before .before .before .before) .choose .result) ((c .before .before .before .before) .choose .ensures)
+choice-number-requires c κs = choice-small ((c .before .before .before .before) .choose .result) ((c .before .before .before .before) .choose .ensures)
 
 same-length : tie.Need-same-length
 same-length c = search needs
@@ -18,7 +17,12 @@ same-length-2 : tie.Need-same-length-2
 same-length-2 c = search needs
 
 returns : tie.Need-returns
-returns c = search needs
+returns c =
+    record {
+      choice = (c .before .before .before .before .before) .choose .result;
+      says = (c .before .before .before .before .before) .choose .ensures;
+      is = c .choice-number .ensures;
+    }
 
 pub corkgully-choose-spec : {M : Type 1} → statement M
 corkgully-choose-spec =

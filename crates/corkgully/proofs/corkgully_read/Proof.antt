@@ -19,7 +19,12 @@ same-length-2 : tie.Need-same-length-2
 same-length-2 c = search needs
 
 returns : tie.Need-returns
-returns c = search needs
+returns c =
+    record {
+      reading = (c .before .before .before .before .before) .read .result;
+      says = (c .before .before .before .before .before) .read .ensures;
+      is = c .reading-number .ensures;
+    }
 
 pub corkgully-read-spec : {M : Type 1} → statement M
 corkgully-read-spec =

@@ -1,5 +1,5 @@
 -- `balance::balances::put_balances` meets its contract. Weights, then amounts. Assumes nothing.
-use Rattle.balance.proofs.Balancing.{marked-groups, puttable, amounts-ask, balances-put}
+use Rattle.balance.proofs.Balancing.{marked-groups, puttable, credits-hold, debits-hold, amounts-ask, balances-put}
 use borrow.Author.Needs.{needs}
 use Rattle.balance.proofs.balances.put_balances.Statement.{statement}
 use Rattle.balance.proofs.balances.put_balances.Tie as tie
@@ -11,7 +11,10 @@ put-weights-requires : tie.Need-put-weights-requires
 put-weights-requires c κs = puttable (c .before .before .before .before .before .before .before .before .before .pre .rule) (c .before .before .live-sum .ensures) (c .before .before .before .before .before .before .before .before .before .pre .room)
 
 add-amounts-requires : tie.Need-add-amounts-requires
-add-amounts-requires c κs = amounts-ask (c .before .before .before .before .before .before .before .before .before .before .before .before .before .before .before .before .pre .rule) (c .before .before .before .before .before .before .before .before .before .live-sum .ensures) (c .before .before .before .before .before .before .before .before .before .before .before .before .before .before .before .before .pre .room) (c .before .before .before .before .before .before .put-weights .ensures)
+add-amounts-requires c κs =
+    let credits = credits-hold (c .before .before .before .before .before .before .before .before .before .before .before .before .before .before .before .before .pre .rule) (c .before .before .before .before .before .before .before .before .before .live-sum .ensures) (c .before .before .before .before .before .before .before .before .before .before .before .before .before .before .before .before .pre .room) (c .before .before .before .before .before .before .put-weights .ensures) in
+    let debits = debits-hold (c .before .before .before .before .before .before .before .before .before .before .before .before .before .before .before .before .pre .rule) (c .before .before .before .before .before .before .before .before .before .live-sum .ensures) (c .before .before .before .before .before .before .before .before .before .before .before .before .before .before .before .before .pre .room) (c .before .before .before .before .before .before .put-weights .ensures) in
+    amounts-ask (c .before .before .before .before .before .before .before .before .before .before .before .before .before .before .before .before .pre .rule) (search (credits, debits)) (search (credits, debits))
 
 same-length : tie.Need-same-length
 same-length c = search needs

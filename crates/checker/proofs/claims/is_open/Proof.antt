@@ -3,6 +3,8 @@ use Rattle.balance.proofs.Looks.{mark-in, first-not-out}
 use Rattle.checker.proofs.Looks.{open-told}
 use denote.Ref.{now}
 use native.Mathlib.Omega.{arith}
+use mathlib.Core.Path.{sym, ap, _∙_}
+use Rattle.survey.specs.Words.{markedSet}
 use Rattle.checker.proofs.claims.is_open.Statement.{statement}
 use Rattle.checker.proofs.claims.is_open.Tie as tie
 
@@ -13,7 +15,7 @@ shared-slice-read-if1 : tie.Need-shared-slice-read-if1
 shared-slice-read-if1 c = omega (arith, c .before .before .before .before .pre .from, c .before .link-at .ensures .from)
 
 returns : tie.Need-returns
-returns c = first-not-out (rw (c .before .before .link-at .ensures .from) at (mark-in (now (c .before .before .before .before .before .args .marks)) _ (c .if1 .taken)))
+returns c = first-not-out (ap (markedSet (now (c .before .before .before .before .before .args .marks))) (sym (c .before .before .link-at .ensures .from)) ∙ mark-in (now (c .before .before .before .before .before .args .marks)) _ (c .if1 .taken))
 
 shared-slice-read-result : tie.Need-shared-slice-read-result
 shared-slice-read-result c = omega (arith, c .before .before .before .before .before .before .pre .to, c .before .before .before .link-at .ensures .to)
