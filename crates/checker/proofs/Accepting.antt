@@ -47,7 +47,9 @@ on-past (f ∷ fs) gs c a = on-past fs gs (c .1) (look-on f (fs ++ gs) (c .0) a)
 -- ---- the answer
 
 module _ (n e : ℕ) (groups links marks amounts : List ℕ) where
-  claim-clear : CheckerSays n e groups links marks amounts Judgement.Accepted → AllClear (chooserFaults n e groups links marks amounts) × AllClear (claimFaults (surveyOf n e groups links) marks (amountsOf amounts))
+  claim-clear :
+      CheckerSays n e groups links marks amounts Judgement.Accepted
+      → AllClear (chooserFaults n e groups links marks amounts) × AllClear (claimFaults (surveyOf n e groups links) marks (amountsOf amounts))
   claim-clear a =
       clear-parts (chooserFaults n e groups links marks amounts) (claimFaults (surveyOf n e groups links) marks (amountsOf amounts))
       (fine-clear (checkerFaults n e groups links marks amounts) (a .verdict))
@@ -110,13 +112,17 @@ module _ (n e : ℕ) (groups links marks amounts : List ℕ) where
       claim : ClaimClear (surveyOf n e groups links) (markedSet marks) (amountsOf amounts)
       claim = accepted-clear (surveyOf n e groups links) (markedSet marks) (amountsOf amounts) (x .rule)
 
-  pub accepted-iff : (CheckerSays n e groups links marks amounts Judgement.Accepted → Acceptable n e groups links marks amounts) × (Acceptable n e groups links marks amounts → CheckerSays n e groups links marks amounts Judgement.Accepted)
+  pub accepted-iff :
+      (CheckerSays n e groups links marks amounts Judgement.Accepted → Acceptable n e groups links marks amounts)
+      × (Acceptable n e groups links marks amounts → CheckerSays n e groups links marks amounts Judgement.Accepted)
   accepted-iff = (accepted-acceptable, acceptable-accepted)
 
   -- ---- refusal 18
 
   -- A claim that passes every row up to 17 and that the rule does not accept is refused 18, and the group is there to be named.
-  pub refusal-18-has-its-place : (r : Judgement) → CheckerSays n e groups links marks amounts r → AllClear (before18 n e groups links marks amounts) → (Accepted (surveyOf n e groups links) (markedSet marks) (amountsOf amounts) → ⊥) → Refused18 n e groups links marks amounts r
+  pub refusal-18-has-its-place :
+      (r : Judgement) → CheckerSays n e groups links marks amounts r → AllClear (before18 n e groups links marks amounts)
+      → (Accepted (surveyOf n e groups links) (markedSet marks) (amountsOf amounts) → ⊥) → Refused18 n e groups links marks amounts r
   unfolding AllClear surveyAt
   refusal-18-has-its-place r a c not =
       at (look (notLargest s S x) [] (on-past (before18 n e groups links marks amounts) (notLargest s S x ∷ []) c (a .verdict)))

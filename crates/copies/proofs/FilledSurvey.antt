@@ -71,6 +71,9 @@ same-entries n e g g′ l l′ p q =
           (λ k h i. record { from = (simp add-zero at (same-word e l l′ q k 0 h (omega arith))) i; to = same-word e l l′ q k 4 h (omega arith) i }) i;
     }
   where
-    same-word : (c : ℕ) (x y : List ℕ) → ((i : ℕ) → i < entryBytes * c → getD x i 0 ≡ getD y i 0) → (k j : ℕ) → k < c → j + 4 ≤ entryBytes → word x (standsAt lent k + j) ≡ word y (standsAt lent k + j)
+    same-word :
+        (c : ℕ) (x y : List ℕ) → ((i : ℕ) → i < entryBytes * c → getD x i 0 ≡ getD y i 0) → (k j : ℕ) → k < c → j + 4 ≤ entryBytes
+        → word x (standsAt lent k + j) ≡ word y (standsAt lent k + j)
     same-word c x y s k j h m =
-        omega (arith, simp add-zero at (s (standsAt lent k + j + 0) (omega arith)), s (standsAt lent k + j + 1) (omega arith), s (standsAt lent k + j + 2) (omega arith), s (standsAt lent k + j + 3) (omega arith))
+        let at = standsAt lent k + j in
+        omega (arith, simp add-zero at (s (at + 0) (omega arith)), s (at + 1) (omega arith), s (at + 2) (omega arith), s (at + 3) (omega arith))

@@ -75,7 +75,9 @@ first-fault (f ∷ fs) {r} {x} a e = at (look f fs a) (λ y. first-fault fs y e)
 pick-given : {s : Survey} {x rounds : ℕ} {marks amounts marks′ amounts′ : List ℕ} → x ≡ 65_536 * rounds → Chooses s rounds marks amounts marks′ amounts′ → GivesPick s x marks′
 pick-given {rounds = rounds} e c = record { rounds = rounds; is = e; counted = c .counted; pick = c .pick; only = λ S p. pick-one p (c .pick) }
 
-survey-given : {f groups links groups′ links′ : List ℕ} {n e x : ℕ} → x ≡ readingNumber (Reading.Survey n e) → ReadLists f groups links (Reading.Survey n e) groups′ links′ → GivesSurvey f x groups′ links′
+survey-given :
+    {f groups links groups′ links′ : List ℕ} {n e x : ℕ} → x ≡ readingNumber (Reading.Survey n e)
+    → ReadLists f groups links (Reading.Survey n e) groups′ links′ → GivesSurvey f x groups′ links′
 survey-given {f} {n = n} {e = e} {x = x} q l = record { is = number q (l .0) (l .1); survey = filled-survey (l .2) (l .3) }
   where
     number : x ≡ 65_536 * n + 4_294_967_296 * e → n ≡ nIn f → e ≡ eIn f → x ≡ 65_536 * nIn f + 4_294_967_296 * eIn f
@@ -86,7 +88,8 @@ pub reader-outcome :
     → Outcome (readerFaults f groups links) x ((groups′ ≡ groups) × (links′ ≡ links)) (GivesSurvey f x groups′ links′)
 reader-outcome {f} {groups} {links} {groups′} {links′} {x} a = at (a .reading) (a .is) (a .says)
   where
-    at : (r : Reading) → x ≡ readingNumber r → ReaderSays f groups links r groups′ links′ → Outcome (readerFaults f groups links) x ((groups′ ≡ groups) × (links′ ≡ links)) (GivesSurvey f x groups′ links′)
+    at : (r : Reading) → x ≡ readingNumber r → ReaderSays f groups links r groups′ links′
+        → Outcome (readerFaults f groups links) x ((groups′ ≡ groups) × (links′ ≡ links)) (GivesSurvey f x groups′ links′)
     at (Reading.Refused r) e s = refuses (first-fault (readerFaults f groups links) (s .verdict) e) (s .lists)
     at (Reading.Survey n k) e s = gives (fine-clear (readerFaults f groups links) (s .verdict)) (survey-given e (s .lists))
 
@@ -127,7 +130,8 @@ module _ {n e : ℕ} {groups links marks amounts marks′ amounts′ : List ℕ}
       at (Choice.Refused r) q s = absurd (none-refused (chooserFaults n e groups links marks amounts) clear (s .verdict) refl)
       at (Choice.Chosen rounds) q s = pick-given q (s .lists)
 
-  chosen : Succeeds x → (r : Choice) → x ≡ choiceNumber r → ChooserSays n e groups links marks amounts r marks′ amounts′ → (k : ℕ) × ChooserSays n e groups links marks amounts (Choice.Chosen k) marks′ amounts′
+  chosen : Succeeds x → (r : Choice) → x ≡ choiceNumber r → ChooserSays n e groups links marks amounts r marks′ amounts′
+      → (k : ℕ) × ChooserSays n e groups links marks amounts (Choice.Chosen k) marks′ amounts′
   chosen z (Choice.Refused r) q s = absurd (no-success r (choice-small (Choice.Refused r) s) q z)
   chosen z (Choice.Chosen k) q s = (k, s)
 
@@ -136,7 +140,8 @@ module _ {n e : ℕ} {groups links marks amounts marks′ amounts′ : List ℕ}
 
 module _ {f groups links groups′ links′ : List ℕ} {x : ℕ} (a : ReadNumber f groups links x groups′ links′) where
   -- an admitted file is read, into lists that are as long as before
-  reads : groupLimit ≤ entries groups → linkLimit ≤ entries links → AdmittedFile f → GivesSurvey f x groups′ links′ × ((length groups′ ≡ length groups) × (length links′ ≡ length links))
+  reads : groupLimit ≤ entries groups → linkLimit ≤ entries links → AdmittedFile f
+      → GivesSurvey f x groups′ links′ × ((length groups′ ≡ length groups) × (length links′ ≡ length links))
   unfolding AllClear OneShort
   reads g l admitted = at (a .reading) (a .is) (a .says)
     where
@@ -148,7 +153,8 @@ module _ {f groups links groups′ links′ : List ℕ} {x : ℕ} (a : ReadNumbe
       clear : AllClear (readerFaults f groups links)
       clear = (record { none = λ k m o. short o }, admitted .clear)
 
-      at : (r : Reading) → x ≡ readingNumber r → ReaderSays f groups links r groups′ links′ → GivesSurvey f x groups′ links′ × ((length groups′ ≡ length groups) × (length links′ ≡ length links))
+      at : (r : Reading) → x ≡ readingNumber r → ReaderSays f groups links r groups′ links′
+          → GivesSurvey f x groups′ links′ × ((length groups′ ≡ length groups) × (length links′ ≡ length links))
       at (Reading.Refused r) q s = absurd (none-refused (readerFaults f groups links) clear (s .verdict) refl)
       at (Reading.Survey n e) q s = (survey-given q (s .lists), (s .lists .2 .long, s .lists .3 .long))
 
@@ -167,8 +173,11 @@ pub file-picked :
     {f groups links marks amounts groups′ links′ marks′ amounts′ : List ℕ} {x y : ℕ} → ReadNumber f groups links x groups′ links′
     → ChooseNumber (nIn f) (eIn f) groups′ links′ marks amounts y marks′ amounts′ → LongEnough groups links marks amounts → AdmittedFile f
     → GivesSurvey f x groups′ links′ × GivesPick (surveyIn f) y marks′
-file-picked {f} {groups} {links} {marks} {amounts} {groups′} {links′} {marks′} {x = x} {y = y} a b long admitted =
-    (read .0, subst (λ (s : Survey). GivesPick s y marks′) (read .0 .survey) (admitted-picked b still (subst (λ (s : Survey). Admitted s) (sym (read .0 .survey)) (file-survey admitted))))
+file-picked {f} {groups} {links} {marks} {amounts} {groups′} {links′} {marks′} {x = x} {y = y} a b long admitted = (
+  read .0,
+  subst (λ (s : Survey). GivesPick s y marks′) (read .0 .survey)
+      (admitted-picked b still (subst (λ (s : Survey). Admitted s) (sym (read .0 .survey)) (file-survey admitted))),
+)
   where
     read : GivesSurvey f x groups′ links′ × ((length groups′ ≡ length groups) × (length links′ ≡ length links))
     read = reads a (long .groups-have) (long .links-have) admitted

@@ -216,8 +216,10 @@ heaviest-one {n} {e} {links} {plus} {minus} {marks} {amounts} {p = p} {m = m} {t
       marks = alike n marks t t′ (x .marks-long) (y .marks-long) (λ g l. bits-one (x .bits g l) (y .bits g l) (same .at g l)) (x .marks-rest) (y .marks-rest);
       halves =
           λ q. (
-            alike n plus p p′ (x .plus-long) (y .plus-long) (λ g l. one .balanced .above g l ∙ excess-same (equal q) w g ∙ sym (two .balanced .above g l)) (x .plus-rest) (y .plus-rest),
-            alike n minus m m′ (x .minus-long) (y .minus-long) (λ g l. one .balanced .below g l ∙ lack-same (equal q) w g ∙ sym (two .balanced .below g l)) (x .minus-rest) (y .minus-rest),
+            alike n plus p p′ (x .plus-long) (y .plus-long) (λ g l. one .balanced .above g l ∙ excess-same (equal q) w g ∙ sym (two .balanced .above g l))
+                (x .plus-rest) (y .plus-rest),
+            alike n minus m m′ (x .minus-long) (y .minus-long) (λ g l. one .balanced .below g l ∙ lack-same (equal q) w g ∙ sym (two .balanced .below g l))
+                (x .minus-rest) (y .minus-rest),
           );
       once-equal = λ q. alike (entryBytes * e) amounts a a′ (x .amounts-long) (y .amounts-long) q (x .amounts-rest) (y .amounts-rest);
     }

@@ -84,7 +84,9 @@ file-rows f hb hn he = (
 
 module _ {r : Refusal} where
   -- A look at a fault of place nothing: the refusal is small, or the fault is not there and the answer is the others'.
-  first-whole : (P : Type 0) (number : ℕ) (fs : List Fault) → (0 < number) × (number < 256) → (Clear (whole number P) → Answers fs (refused r) → SmallBy placeRoom r) → Answers (whole number P ∷ fs) (refused r) → SmallBy placeRoom r
+  first-whole :
+      (P : Type 0) (number : ℕ) (fs : List Fault) → (0 < number) × (number < 256) → (Clear (whole number P) → Answers fs (refused r) → SmallBy placeRoom r)
+      → Answers (whole number P ∷ fs) (refused r) → SmallBy placeRoom r
   first-whole P number fs h go a =
       ⊎-elim (λ g. given-small (few-whole number P h (omega arith)) g) (λ c. go (c .0) (c .1)) (look (whole number P) fs a)
 
@@ -128,7 +130,8 @@ module _ {r : Refusal} where
   -- of a file whose words are words: 2^32 is above any n and e that one can hold
   pub reader-small : (f g l : List ℕ) → nIn f ≤ placeRoom → eIn f ≤ placeRoom → Answers (readerFaults f g l) (refused r) → SmallBy placeRoom r
   reader-small f g l hn he x =
-      first-whole _ 1 (fileFaults f) (omega arith, omega arith) (λ c y. first-whole _ 2 (after-length f) (omega arith, omega arith) (λ d z. refused-small (after-length f) (file-few d) z) y) x
+      first-whole _ 1 (fileFaults f) (omega arith, omega arith)
+      (λ c y. first-whole _ 2 (after-length f) (omega arith, omega arith) (λ d z. refused-small (after-length f) (file-few d) z) y) x
     where
       blocks : Clear (badLength f) → blockCount f ≤ placeRoom
       blocks c = at (λ h. c .none 0 (omega arith) (inr (inr h)))

@@ -15,16 +15,27 @@ enum-known-call : tie.Need-enum-known-call
 enum-known-call c = search needs
 
 returns : tie.Need-returns
-returns c = record { verdict = early (chooserFaults (c .before .before .before .before .before .before .before .before .args .n) (c .before .before .before .before .before .before .before .before .args .e) (now (c .before .before .before .before .before .before .before .before .args .groups)) (now (c .before .before .before .before .before .before .before .before .args .links)) (now (c .before .before .before .before .before .before .before .before .args .marks)) (now (c .before .before .before .before .before .before .before .before .args .amounts))) (claimFaults (surveyOf (c .before .before .before .before .before .before .before .before .args .n) (c .before .before .before .before .before .before .before .before .args .e) (now (c .before .before .before .before .before .before .before .before .args .groups)) (now (c .before .before .before .before .before .before .before .before .args .links))) (now (c .before .before .before .before .before .before .before .before .args .marks)) (amountsOf (now (c .before .before .before .before .before .before .before .before .args .amounts)))) (rw (c .before .call .given .1) at (c .before .before .before .admit-call .ensures)) }
+returns c =
+    let a = c .before .before .before .before .before .before .before .before .args in
+    let call = chooserFaults (a .n) (a .e) (now (a .groups)) (now (a .links)) (now (a .marks)) (now (a .amounts)) in
+    let claim = claimFaults (surveyOf (a .n) (a .e) (now (a .groups)) (now (a .links))) (now (a .marks)) (amountsOf (now (a .amounts))) in
+    record { verdict = early call claim (rw (c .before .call .given .1) at (c .before .before .before .admit-call .ensures)) }
 
 enum-told : tie.Need-enum-told
 enum-told c = search needs
 
 claim-faults-requires : tie.Need-claim-faults-requires
-claim-faults-requires c κs = admitted-call (now (c .before .before .before .before .before .before .before .args .groups)) (now (c .before .before .before .before .before .before .before .args .links)) (now (c .before .before .before .before .before .before .before .args .marks)) (now (c .before .before .before .before .before .before .before .args .amounts)) (c .before .before .before .before .before .before .before .args .n) (c .before .before .before .before .before .before .before .args .e) (rw (c .enum-told .given .1) at (c .before .before .admit-call .ensures))
+claim-faults-requires c κs =
+    let a = c .before .before .before .before .before .before .before .args in
+    let admitted = rw (c .enum-told .given .1) at (c .before .before .admit-call .ensures) in
+    admitted-call (now (a .groups)) (now (a .links)) (now (a .marks)) (now (a .amounts)) (a .n) (a .e) admitted
 
 returns-2 : tie.Need-returns-2
-returns-2 c = record { verdict = afterwards (chooserFaults (c .before .before .before .before .before .before .before .before .args .n) (c .before .before .before .before .before .before .before .before .args .e) (now (c .before .before .before .before .before .before .before .before .args .groups)) (now (c .before .before .before .before .before .before .before .before .args .links)) (now (c .before .before .before .before .before .before .before .before .args .marks)) (now (c .before .before .before .before .before .before .before .before .args .amounts))) (fine-clear (chooserFaults (c .before .before .before .before .before .before .before .before .args .n) (c .before .before .before .before .before .before .before .before .args .e) (now (c .before .before .before .before .before .before .before .before .args .groups)) (now (c .before .before .before .before .before .before .before .before .args .links)) (now (c .before .before .before .before .before .before .before .before .args .marks)) (now (c .before .before .before .before .before .before .before .before .args .amounts))) (rw (c .before .enum-told .given .1) at (c .before .before .before .admit-call .ensures))) (c .claim-faults .ensures) }
+returns-2 c =
+    let a = c .before .before .before .before .before .before .before .before .args in
+    let call = chooserFaults (a .n) (a .e) (now (a .groups)) (now (a .links)) (now (a .marks)) (now (a .amounts)) in
+    let admitted = rw (c .before .enum-told .given .1) at (c .before .before .before .admit-call .ensures) in
+    record { verdict = afterwards call (fine-clear call admitted) (c .claim-faults .ensures) }
 
 pub check-spec : {M : Type 1} → statement M
 check-spec =
