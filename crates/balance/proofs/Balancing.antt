@@ -26,7 +26,7 @@ use Rattle.balance.specs.Rule.{RuleAsks}
 use Rattle.balance.specs.Balances.{fromOf, toOf, amountsAt, Takes, AmountsAsk, AmountsAdded, BalanceLists, BalancesPut}
 
 -- each group has its place in the list, and what stands there is at most what one half of a weight comes to
-pub record Holds (n : ℕ) (list : List ℕ) : Type 0 where
+pub record WeightHalves (n : ℕ) (list : List ℕ) : Type 0 where
   pub long : n ≤ length list
   pub small : (g : ℕ) → g < n → getD list g 0 ≤ countLimit * sumLimit
 
@@ -82,14 +82,14 @@ module _ (n e : ℕ) (groups links : List ℕ) where
       unfolding surveyAt
       pays-small g = rw (pays-at a g) at (pays-fit x a small g)
 
-      takes-from : {list : List ℕ} → Holds n list → Takes (fromOf links) a e list
+      takes-from : {list : List ℕ} → WeightHalves n list → Takes (fromOf links) a e list
       takes-from h =
           record {
             within = λ k l. omega (arith, from-below k l, h .long);
             fits = λ k l. omega (arith, gets-small (fromOf links k), h .small (fromOf links k) (from-below k l));
           }
 
-      takes-to : {list : List ℕ} → Holds n list → Takes (toOf links) a e list
+      takes-to : {list : List ℕ} → WeightHalves n list → Takes (toOf links) a e list
       takes-to h =
           record {
             within = λ k l. omega (arith, to-below k l, h .long);
@@ -106,7 +106,7 @@ module _ {n e : ℕ} {groups links marks amounts : List ℕ} (x : AdmittedCall n
 
 module _ {n e d : ℕ} {groups links marks amounts : List ℕ} (p : RuleAsks n e groups links marks amounts d) where
   -- Either list can take the amounts by either end.
-  pub amounts-ask : {list list′ : List ℕ} → Holds n list → Holds n list′ → AmountsAsk e links amounts list list′
+  pub amounts-ask : {list list′ : List ℕ} → WeightHalves n list → WeightHalves n list′ → AmountsAsk e links amounts list list′
   amounts-ask h h′ =
       record {
         links-long = p .call .links-long;
@@ -123,21 +123,22 @@ module _ {n e d : ℕ} {groups links marks amounts : List ℕ} (p : RuleAsks n e
       put : WeightsPut n groups (D (groupsOf n groups) (markedSet marks)) (L (groupsOf n groups) (markedSet marks)) credits₀ debits₀ credits debits
       put = rw (p .dead, is) at w
 
-      pub credits-hold : Holds n credits
+      pub credits-hold : WeightHalves n credits
       credits-hold =
           record {
             long = omega (arith, w .pluses .long, room .credits-long);
             small = λ g h. omega (arith, plus-put e links (markedSet marks) put g h, plus-small n e groups links (p .call .sound) (markedSet marks) g h);
           }
 
-      pub debits-hold : Holds n debits
+      pub debits-hold : WeightHalves n debits
       debits-hold =
           record {
             long = omega (arith, w .minuses .long, room .debits-long);
             small = λ g h. omega (arith, minus-put e links (markedSet marks) put g h, minus-small n e groups links (p .call .sound) (markedSet marks) g h);
           }
 
-      pub balances-put : {credits′ debits′ : List ℕ} → AmountsAdded e links amounts credits debits credits′ debits′ → BalancesPut n e groups links marks amounts credits₀ debits₀ credits′ debits′
+      pub balances-put : {credits′ debits′ : List ℕ} → AmountsAdded e links amounts credits debits credits′ debits′
+          → BalancesPut n e groups links marks amounts credits₀ debits₀ credits′ debits′
       balances-put a =
           record {
             credits-long = a .from .long ∙ w .pluses .long;

@@ -29,7 +29,9 @@ reading-small {f} {groups} {links} (Reading.Survey n e) b says =
     let fits = clear-range f (blocks-clear f (clear-fine (fileFaults f) (fine-clear (readerFaults f groups links) (says .verdict) .1))) in
     record { groups = omega (arith, says .lists .0, fits .groups); links = omega (arith, says .lists .1, fits .links) }
 
-pub choice-small : {n e : ℕ} {groups links marks amounts : List ℕ} (r : Choice) {marks′ amounts′ : List ℕ} → ChooserSays n e groups links marks amounts r marks′ amounts′ → SmallChoice r
+pub choice-small :
+    {n e : ℕ} {groups links marks amounts : List ℕ} (r : Choice) {marks′ amounts′ : List ℕ} → ChooserSays n e groups links marks amounts r marks′ amounts′
+    → SmallChoice r
 choice-small {n} {e} {groups} {links} {marks} {amounts} (Choice.Refused r) says =
     let small : SmallBy (2 ^ 32) r = chooser-small n e groups links marks amounts (says .verdict) in
     record { number = small .number; above = small .above; place = omega (arith, small .place) }

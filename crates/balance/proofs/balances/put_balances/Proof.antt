@@ -12,9 +12,12 @@ put-weights-requires c κs = puttable (c .before .before .before .before .before
 
 add-amounts-requires : tie.Need-add-amounts-requires
 add-amounts-requires c κs =
-    let credits = credits-hold (c .before .before .before .before .before .before .before .before .before .before .before .before .before .before .before .before .pre .rule) (c .before .before .before .before .before .before .before .before .before .live-sum .ensures) (c .before .before .before .before .before .before .before .before .before .before .before .before .before .before .before .before .pre .room) (c .before .before .before .before .before .before .put-weights .ensures) in
-    let debits = debits-hold (c .before .before .before .before .before .before .before .before .before .before .before .before .before .before .before .before .pre .rule) (c .before .before .before .before .before .before .before .before .before .live-sum .ensures) (c .before .before .before .before .before .before .before .before .before .before .before .before .before .before .before .before .pre .room) (c .before .before .before .before .before .before .put-weights .ensures) in
-    amounts-ask (c .before .before .before .before .before .before .before .before .before .before .before .before .before .before .before .before .pre .rule) (search (credits, debits)) (search (credits, debits))
+    let weighed = c .before .before .before .before .before .before in
+    let asked = weighed .before .before .before .before .before .before .before .before .before .before .pre in
+    let sum = weighed .before .before .before .live-sum .ensures in
+    let credits = credits-hold (asked .rule) sum (asked .room) (weighed .put-weights .ensures) in
+    let debits = debits-hold (asked .rule) sum (asked .room) (weighed .put-weights .ensures) in
+    amounts-ask (asked .rule) (search (credits, debits)) (search (credits, debits))
 
 same-length : tie.Need-same-length
 same-length c = search needs
@@ -23,7 +26,10 @@ same-length-2 : tie.Need-same-length-2
 same-length-2 c = search needs
 
 returns : tie.Need-returns
-returns c = balances-put (c .before .before .before .before .before .before .before .before .before .before .before .before .before .before .before .before .before .before .before .before .before .pre .rule) (c .before .before .before .before .before .before .before .before .before .before .before .before .before .before .live-sum .ensures) (c .before .before .before .before .before .before .before .before .before .before .before .before .before .before .before .before .before .before .before .before .before .pre .room) (c .before .before .before .before .before .before .before .before .before .before .before .put-weights .ensures) (c .before .before .before .before .add-amounts .ensures)
+returns c =
+    let weighed = c .before .before .before .before .before .before .before .before .before .before .before in
+    let asked = weighed .before .before .before .before .before .before .before .before .before .before .pre in
+    balances-put (asked .rule) (weighed .before .before .before .live-sum .ensures) (asked .room) (weighed .put-weights .ensures) (c .before .before .before .before .add-amounts .ensures)
 
 pub put-balances-spec : {M : Type 1} → statement M
 put-balances-spec =

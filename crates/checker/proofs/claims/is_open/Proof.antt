@@ -15,13 +15,18 @@ shared-slice-read-if1 : tie.Need-shared-slice-read-if1
 shared-slice-read-if1 c = omega (arith, c .before .before .before .before .pre .from, c .before .link-at .ensures .from)
 
 returns : tie.Need-returns
-returns c = first-not-out (ap (markedSet (now (c .before .before .before .before .before .args .marks))) (sym (c .before .before .link-at .ensures .from)) ∙ mark-in (now (c .before .before .before .before .before .args .marks)) _ (c .if1 .taken))
+returns c =
+    let marks = now (c .before .before .before .before .before .args .marks) in
+    first-not-out (ap (markedSet marks) (sym (c .before .before .link-at .ensures .from)) ∙ mark-in marks _ (c .if1 .taken))
 
 shared-slice-read-result : tie.Need-shared-slice-read-result
 shared-slice-read-result c = omega (arith, c .before .before .before .before .before .before .pre .to, c .before .before .before .link-at .ensures .to)
 
 returns-2 : tie.Need-returns-2
-returns-2 c = open-told (now (c .before .before .before .before .before .before .args .links)) (now (c .before .before .before .before .before .before .args .marks)) (c .before .before .before .before .before .before .args .k) (c .before .before .before .link-at .ensures .from) (c .before .before .before .link-at .ensures .to) (c .before .if1 .left)
+returns-2 c =
+    let a = c .before .before .before .before .before .before .args in
+    let link = c .before .before .before .link-at .ensures in
+    open-told (now (a .links)) (now (a .marks)) (a .k) (link .from) (link .to) (c .before .if1 .left)
 
 pub is-open-spec : {M : Type 1} → statement M
 is-open-spec =
