@@ -1,4 +1,4 @@
--- Laws of peeling: how it begins, what one group and one link of it do, and what it tells at its end (design/mathematics.md, 17 and 18).
+-- Laws of peeling: how it begins, what one group and one link of it do, and what it tells at its end.
 use Prim.Native.Nat.{ℕ, _+_, _-_, _<_, _≤_}
 use mathlib.Core.Path.{_≡_, refl, sym, ap, _∙_}
 use mathlib.Core.Bool.{Bool, true, false, _&&_, _||_, not}

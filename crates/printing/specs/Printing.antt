@@ -28,7 +28,7 @@ chosenLine k d l r = named chosenWord k ++ named deadWord d ++ named liveWord l 
 abbrev pub size : Survey → Set → ℕ
 size s S = total s (λ g. 1) S
 
--- a group's number on a line of its own, where the group is picked
+-- 14.2: a group's number on a line of its own, where the group is picked
 abbrev pub numberLine : Set → ℕ → List ℕ
 numberLine P g = cond (P g) (decimal g ++ lineFeed) []
 
@@ -37,7 +37,7 @@ unfoldable pub numberLines : ℕ → Set → List ℕ
 numberLines zero P = []
 numberLines (suc g) P = numberLines g P ++ numberLine P g
 
--- the three together, of a survey whose pick is P, found in so many rounds
+-- 14.2: the three together, of a survey whose pick is P, found in so many rounds
 abbrev pub pickText : Survey → Set → ℕ → List ℕ
 pickText s P rounds = surveyLine (s .n) (s .e) ++ chosenLine (size s P) (D s P) (L s P) rounds ++ numberLines (s .n) P
 

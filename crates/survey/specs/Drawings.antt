@@ -15,11 +15,11 @@ use Rattle.survey.specs.Rounds.{RoundsOf}
 use Rattle.survey.specs.Refusals.{Verdict, fine, refused, Answers}
 use Rattle.survey.specs.Faults.{listFaults, claimFaults, Admitted}
 
--- a group by its counts, written dead:live
+-- 15: a group by its counts, written dead:live
 abbrev pub counts : ℕ → ℕ → survey.Group
 counts dead live = record { dead = dead; live = live }
 
--- a link, written (p, q)
+-- 15: a link, written (p, q)
 abbrev pub link : ℕ → ℕ → survey.Link
 link from to = record { from = from; to = to }
 
@@ -28,12 +28,12 @@ abbrev pub drawn : List survey.Group → List survey.Link → Survey
 drawn groups links =
     record { n = length groups; e = length links; group = λ g. getD groups g (counts 0 0); link = λ k. getD links k (link 0 0) }
 
--- the set of the groups with these numbers
+-- 15: the set of the groups with these numbers
 abbrev pub setOf : List ℕ → Set
 setOf [] g = false
 setOf (p ∷ ps) g = eqb p g || setOf ps g
 
--- the amounts on the links, one after the other
+-- 15: the amounts on the links, one after the other
 abbrev pub amountsIn : List ℕ → ℕ → ℕ
 amountsIn a k = getD a k 0
 
@@ -132,7 +132,7 @@ pub record Row : Type 0 where
   pub dead : ℕ
   pub live : ℕ
 
--- such a row
+-- 15.2: such a row
 abbrev pub row : List ℕ → ℕ → ℕ → Row
 row groups dead live = record { groups = groups; dead = dead; live = live }
 

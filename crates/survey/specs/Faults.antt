@@ -13,7 +13,7 @@ use Rattle.survey.specs.Words.{entries, surveyOf, markedSet, amountsOf}
 use Rattle.survey.specs.SurveyFile.{blockCount, CheckAgrees, numberIn, kindIn, kindOf, nIn, eIn, blocksNeeded, fileLimit, UnusedAreZero, surveyIn}
 use Rattle.survey.specs.Refusals.{Fault, whole, among, AllClear}
 
--- a list of the call: how many whole entries it has, and how many it needs
+-- 11.1: a list of the call: how many whole entries it has, and how many it needs
 pub record LentList : Type 0 where
   pub has : ℕ
   pub needs : ℕ
@@ -103,7 +103,7 @@ nothingDead s S = whole 16 (D s S ≡ 0)
 abbrev pub balanceAbove : Survey → Set → Amounts → Fault
 balanceAbove s S a = among 17 (s .n) (BalanceAbove0 s (weights s S) a)
 
--- in the largest settled set, and left out by the claim
+-- 11.1: in the largest settled set, and left out by the claim
 pub record LeftOut (s : Survey) (S : Set) (a : Amounts) (g : ℕ) : Type 0 where
   pub largestSet : Set
   pub largest : LargestSettled s (weights s S) a largestSet
@@ -142,7 +142,7 @@ claimFaults s m a =
 abbrev pub readerFaults : List ℕ → List ℕ → List ℕ → List Fault
 readerFaults f groups links = tooShort (groupList (entries groups) ∷ linkList (entries links) ∷ []) ∷ fileFaults f
 
--- the lists that a call of chooser or checker lends, all of which 1 is about
+-- 11.2: the lists that a call of chooser or checker lends, all of which 1 is about
 abbrev pub callLists : List ℕ → List ℕ → List ℕ → List ℕ → List LentList
 callLists groups links marks amounts =
     groupList (entries groups) ∷ linkList (entries links) ∷ groupList (length marks) ∷ linkList (entries amounts) ∷ []

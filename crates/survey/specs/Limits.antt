@@ -1,38 +1,38 @@
 -- Specification 2, "Limits": each number here and nowhere else.
 use Prim.Native.Nat.{ℕ, _+_, _*_}
 
--- the most groups of a survey; the least is 1
+-- 2: the most groups of a survey; the least is 1
 abbrev pub groupLimit : ℕ
 groupLimit = 128
 
--- the most links of a survey; there may be none
+-- 2: the most links of a survey; there may be none
 abbrev pub linkLimit : ℕ
 linkLimit = 1_024
 
--- the most that a count comes to, dead or live
+-- 2: the most that a count comes to, dead or live
 abbrev pub countLimit : ℕ
 countLimit = 1_000_000
 
--- the most that a claim puts on a link
+-- 2: the most that a claim puts on a link
 abbrev pub amountLimit : ℕ
 amountLimit = 20_000_000_000_000_000
 
--- the bytes of a block
+-- 2: the bytes of a block
 abbrev pub blockBytes : ℕ
 blockBytes = 512
 
--- the words of a block that its check covers; two more hold the check
+-- 2: the words of a block that its check covers; two more hold the check
 abbrev pub contentWords : ℕ
 contentWords = 126
 
--- the pairs that one block has room for
+-- 2: the pairs that one block has room for
 abbrev pub blockPairs : ℕ
 blockPairs = 62
 
--- the bytes of a group, a link or an amount, in a lent list and in a file alike
+-- 2: the bytes of a group, a link or an amount, in a lent list and in a file alike
 abbrev pub entryBytes : ℕ
 entryBytes = 8
 
--- what D or L of a set can come to: so many groups with so many objects each
+-- 2: what D or L of a set can come to: so many groups with so many objects each
 abbrev pub sumLimit : ℕ
 sumLimit = groupLimit * countLimit

@@ -14,7 +14,7 @@ pub data Verdict : Type 0 where
   fine : Verdict
   refused : Refusal → Verdict
 
--- lo ≤ x ≤ hi, for ranges of numbers
+-- 11.1: lo ≤ x ≤ hi, for ranges of numbers
 abbrev pub within : ℕ → ℕ → ℕ → Bool
 within lo hi x = leb lo x && leb x hi
 

@@ -52,12 +52,12 @@ pub record Closed (s : Survey) (S : Set) : Type 0 where
 pub record Eligible (s : Survey) (S : Set) : Type 0 where
   pub closed : Closed s S
 
--- f 0 + f 1 + .. up to f (n - 1)
+-- 4.4: f 0 + f 1 + .. up to f (n - 1)
 unfoldable pub sum : ℕ → (ℕ → ℕ) → ℕ
 sum zero f = 0
 sum (suc n) f = sum n f + f n
 
--- x where the test holds, else 0
+-- 4.4: x where the test holds, else 0
 abbrev pub only : Bool → ℕ → ℕ
 only true x = x
 only false x = 0

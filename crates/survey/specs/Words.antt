@@ -50,7 +50,7 @@ groupAt l w k = record { dead = word l (standsAt w k); live = word l (standsAt w
 abbrev pub linkAt : List ℕ → Stand → ℕ → Link
 linkAt l w k = record { from = word l (standsAt w k); to = word l (standsAt w k + 4) }
 
--- f up to place n, and z from there on
+-- 8.5: f up to place n, and z from there on
 abbrev pub upTo {ℓ} : {A : Type ℓ} → ℕ → A → (ℕ → A) → ℕ → A
 upTo n z f k = cond (ltb k n) (f k) z
 
