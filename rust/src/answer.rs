@@ -80,7 +80,8 @@ impl fmt::Display for Refusal {
 impl Error for Refusal {}
 
 /// What an answer number says: a refusal where its low 16 bits aren't 0, and otherwise the value
-/// above them, whose meaning is the called function's.
+/// above them, whose meaning is the called function's. That no two answers of a function have the
+/// same number is proved (`crates/corkgully/proofs/NumberOne.antt`).
 ///
 /// # Panics
 ///

@@ -1,10 +1,9 @@
 -- How a call's admission is put together, and what is known of a call that has it.
 use Prim.Native.Nat.{ℕ, _≤_, _<_}
 use native.Mathlib.Omega.{arith}
-use mathlib.Core.Path.{_≡_, refl}
+use mathlib.Core.Path.{_≡_}
 use mathlib.Core.Logic.{_⊎_, inl, inr, ⊎-elim}
 use mathlib.Core.List.{List}
-use lib.ListN.{length}
 use Rattle.survey.specs.declared.answers.Refusal.{Refusal}
 use Rattle.survey.specs.Limits.{groupLimit, linkLimit}
 use Rattle.survey.specs.Words.{entries, lent, surveyOf}

@@ -11,13 +11,12 @@ use Rattle.survey.specs.declared.answers.Refusal.{Refusal}
 use Rattle.survey.specs.declared.answers.Judgement.{Judgement}
 use Rattle.survey.specs.Limits.{amountLimit}
 use Rattle.survey.specs.Survey.{Survey}
-use Rattle.survey.specs.Sets.{Set, In, Out, Contains, Eligible}
+use Rattle.survey.specs.Sets.{Set, Eligible}
 use Rattle.survey.specs.Pick.{IsPick}
-use Rattle.survey.specs.Rounds.{weights}
-use Rattle.survey.specs.Balance.{Amounts, LargestSettled, Accepted}
+use Rattle.survey.specs.Balance.{Amounts, Accepted}
 use Rattle.survey.specs.Words.{surveyAt, surveyOf, markedSet, amountsOf}
 use Rattle.survey.specs.Refusals.{Verdict, refused, Fault, Clear, Given, AllClear, Answers}
-use Rattle.survey.specs.Faults.{badMark, badAmount, notClosed, nothingDead, balanceAbove, notLargest, listFaults, claimFaults, chooserFaults, checkerFaults, Admitted}
+use Rattle.survey.specs.Faults.{badMark, badAmount, notClosed, nothingDead, balanceAbove, notLargest, listFaults, claimFaults, chooserFaults, checkerFaults}
 use Rattle.survey.specs.Answers.{judgementVerdict}
 use Rattle.survey.specs.Promises.{CheckerSays}
 use Rattle.survey.proofs.Verdicts.{past, none-left, clear-fine, fine-clear, afterwards}

@@ -1,9 +1,9 @@
 -- What the three demands come to, promise by promise.
-use Prim.Native.Nat.{ℕ, _+_, _*_, _/_, _%_, _≤_, _<_}
+use Prim.Native.Nat.{ℕ, _+_, _*_, _%_, _≤_, _<_}
 use native.Mathlib.Omega.{arith}
 use mathlib.Core.Path.{_≡_, refl, sym, ap, subst, _∙_}
 use mathlib.Core.Logic.{_⊎_, inl, inr}
-use mathlib.Core.List.{List, [], _∷_, _++_}
+use mathlib.Core.List.{List, [], _∷_}
 use lib.ListN.{length}
 use Rattle.survey.specs.declared.answers.Refusal.{Refusal}
 use Rattle.survey.specs.declared.answers.Reading.{Reading}
@@ -14,10 +14,10 @@ use Rattle.survey.specs.Survey.{Survey}
 use Rattle.survey.specs.Pick.{IsPick}
 use Rattle.survey.specs.Words.{entries, surveyOf, markedSet}
 use Rattle.survey.specs.SurveyFile.{nIn, eIn, surveyIn}
-use Rattle.survey.specs.Refusals.{Verdict, fine, refused, Fault, Clear, Given, First, AllClear, Answers}
-use Rattle.survey.specs.Faults.{OneShort, callLists, fileFaults, listFaults, readerFaults, chooserFaults, checkerFaults, Admitted, AdmittedFile}
-use Rattle.survey.specs.Answers.{refusalNumber, readingVerdict, readingNumber, choiceVerdict, choiceNumber, judgementVerdict, judgementNumber}
-use Rattle.survey.specs.Promises.{Chooses, ReadLists, ChosenLists, ReaderSays, ChooserSays, CheckerSays}
+use Rattle.survey.specs.Refusals.{fine, refused, Fault, Clear, Given, First, AllClear, Answers}
+use Rattle.survey.specs.Faults.{OneShort, readerFaults, chooserFaults, checkerFaults, Admitted, AdmittedFile}
+use Rattle.survey.specs.Answers.{refusalNumber, readingNumber, choiceNumber, judgementVerdict, judgementNumber}
+use Rattle.survey.specs.Promises.{Chooses, ReadLists, ReaderSays, ChooserSays, CheckerSays}
 use Rattle.survey.proofs.Unique.{pick-one}
 use Rattle.survey.proofs.Verdicts.{fine-clear, answers-one, none-refused}
 use Rattle.survey.proofs.Admitted.{file-survey}

@@ -1,24 +1,18 @@
 -- The three demands of Specification 1.4, as three theorems. They are stated over what the exported functions promise (specs/Numbers: `ReadNumber`, `ChooseNumber`, `CheckNumber`
 -- say which number answers a call, and what the lent lists are afterwards) and in the words of docs/SPECIFICATION.md. The functions ask nothing of their
 -- callers, so the theorems hold of every file and every call. A list with a ′ is what its list has become when the call is over.
-use Prim.Native.Nat.{ℕ, _+_, _*_, _%_, _≤_}
+use Prim.Native.Nat.{ℕ}
 use mathlib.Core.Path.{_≡_}
-use mathlib.Core.List.{List, _∷_, _++_}
-use Rattle.survey.specs.Limits.{groupLimit, linkLimit}
-use Rattle.survey.specs.Survey.{Survey}
-use Rattle.survey.specs.Sets.{Set, Same}
+use mathlib.Core.List.{List}
 use Rattle.survey.specs.Pick.{IsPick}
-use Rattle.survey.specs.Rounds.{RoundsOf}
-use Rattle.survey.specs.Words.{entries, surveyOf, markedSet}
+use Rattle.survey.specs.Words.{surveyOf, markedSet}
 use Rattle.survey.specs.SurveyFile.{nIn, eIn, surveyIn}
-use Rattle.survey.specs.Refusals.{Fault, AllClear, Lowest, refusal}
 use Rattle.survey.specs.Faults.{readerFaults, chooserFaults, checkerFaults, Admitted, AdmittedFile}
-use Rattle.survey.specs.Answers.{refusalNumber}
 use Rattle.words.specs.Words.{Bytes}
 use Rattle.calls.specs.Calls.{LongEnough}
 use Rattle.checker.specs.Accepting.{Acceptable}
 use Rattle.corkgully.specs.Numbers.{ReadNumber, ChooseNumber, CheckNumber}
-use Rattle.corkgully.specs.Outcomes.{Refuses, Outcome, GivesSurvey, GivesPick, Succeeds}
+use Rattle.corkgully.specs.Outcomes.{Outcome, GivesSurvey, GivesPick, Succeeds}
 use Rattle.corkgully.proofs.DemandLaws as laws
 
 -- 1. Whatever is handed over is checked. A call is refused for the table's first fault, in the order of looking, at its lowest place, and then nothing

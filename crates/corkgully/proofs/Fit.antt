@@ -14,7 +14,7 @@ use Rattle.survey.proofs.SmallAnswers.{reader-small, chooser-small, checker-sma
 use Rattle.survey.proofs.Verdicts.{fine-clear, clear-fine}
 use Rattle.words.specs.Words.{Bytes}
 use Rattle.words.proofs.WordLaws.{word-below}
-use Rattle.boundary.specs.Packed.{SmallRefusal, SmallReading, SmallChoice, SmallJudgement}
+use Rattle.boundary.specs.Packed.{SmallReading, SmallChoice, SmallJudgement}
 use Rattle.calls.specs.Calls.{AdmittedCall}
 use Rattle.calls.proofs.CallLaws.{admitted-call}
 use Rattle.reader.proofs.FileLaws.{clear-range}

@@ -1,6 +1,6 @@
 -- The drawings that useless programs are tried on, and what the definitions say of them.
 use mathlib.Core.Path.{_≡_, refl}
-use mathlib.Core.Bool.{Bool, true, _&&_}
+use mathlib.Core.Bool.{true, _&&_}
 use Prim.Native.Nat.{ℕ}
 use mathlib.Core.List.{List, [], _∷_, _++_}
 use Rattle.survey.specs.Survey.{Survey, Group, Link}

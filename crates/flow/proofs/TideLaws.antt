@@ -13,7 +13,6 @@ use Rattle.survey.specs.Sets.{Set, Same, outside}
 use Rattle.survey.specs.Balance.{Amounts}
 use Rattle.survey.specs.Words.{markedSet}
 use Rattle.survey.specs.Sound.{Inside}
-use Rattle.flow.specs.Copies.{endIn}
 use Rattle.flow.specs.Chains.{headAt, nextAt, Chainable, Chained}
 use Rattle.flow.specs.Ways.{WaysFound}
 use Rattle.flow.specs.Drains.{Growable, Begun, Grown, Least}

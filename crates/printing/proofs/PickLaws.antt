@@ -14,7 +14,7 @@ use Rattle.survey.specs.Sets.{sum, total, D, L}
 use Rattle.survey.specs.Words.{entries, lent, surveyAt, surveyOf, markedSet}
 use Rattle.survey.specs.SurveyFile.{surveyIn}
 use Rattle.survey.specs.Refusals.{Verdict, fine, refused, AllClear, First, Answers}
-use Rattle.survey.specs.Faults.{OneShort, listFaults, fileFaults, readerFaults, chooserFaults, Admitted}
+use Rattle.survey.specs.Faults.{OneShort, listFaults, fileFaults, readerFaults, chooserFaults}
 use Rattle.survey.specs.Promises.{ReaderSays, ChooserSays}
 use Rattle.survey.proofs.Verdicts.{fine-clear, clear-fine, answers-one}
 use Rattle.survey.proofs.GivenSurvey.{given-n}

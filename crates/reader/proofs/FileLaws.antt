@@ -1,5 +1,5 @@
 -- A file that none of the rows 2 to 7 refuses has room for the pairs of its n groups and e links, where they are looked for.
-use Prim.Native.Nat.{ℕ, _+_, _*_, _≤_, _<_}
+use Prim.Native.Nat.{ℕ, _≤_, _<_}
 use native.Mathlib.Omega.{arith}
 use mathlib.Core.Path.{_≡_}
 use mathlib.Core.Logic.{inl, inr}

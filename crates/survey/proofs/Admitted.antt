@@ -1,5 +1,5 @@
 -- What an admitted survey is, by name, so that nobody counts the rows of the table.
-use Prim.Native.Nat.{ℕ, _+_, _-_, _*_, _≤_, _<_, zero-le}
+use Prim.Native.Nat.{ℕ, _-_, _≤_, _<_, zero-le}
 use native.Mathlib.Nat.{le-refl, le-trans}
 use native.Mathlib.Decide.{decLt, ℕ-discrete}
 use native.Mathlib.Omega.{arith}
@@ -8,15 +8,15 @@ use mathlib.Core.Bool.{Bool, true, false}
 use mathlib.Core.Logic.{_⊎_, inl, inr, ⊎-elim}
 use mathlib.Core.List.{List}
 use Rattle.survey.specs.Limits.{groupLimit, linkLimit, countLimit, sumLimit}
-use Rattle.survey.specs.Survey.{Link, Survey, Ascends, Cycle}
-use Rattle.survey.specs.Sets.{Set, In, allGroups, total, deadOf, costOf, D, L, sum, only}
+use Rattle.survey.specs.Survey.{Link, Survey, Ascends}
+use Rattle.survey.specs.Sets.{Set, allGroups, total, deadOf, costOf, D, L, only}
 use Rattle.survey.specs.Refusals.{AllClear, Clear}
 use Rattle.survey.specs.Words.{surveyAt}
 use Rattle.survey.specs.SurveyFile.{surveyIn}
 use Rattle.survey.specs.Faults.{badCount, badEnd, badOrder, anyCycle, noDead, Admitted, AdmittedFile}
-use Rattle.survey.specs.Sound.{Inside, Sound}
+use Rattle.survey.specs.Sound.{Sound}
 use Rattle.survey.proofs.SumOrder.{sum-at-most}
-use Rattle.survey.proofs.Totals.{total-within, member-le}
+use Rattle.survey.proofs.Totals.{member-le}
 
 -- whether one link stands below another can be told
 ascends-decided : (a b : Link) → (Ascends a b → ⊥) ⊎ Ascends a b

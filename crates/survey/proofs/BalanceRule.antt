@@ -2,10 +2,10 @@
 use Prim.Native.Nat.{ℕ, _+_, _-_, _*_, _≤_, _<_}
 use native.Mathlib.Nat.{mul-comm, mul-pos}
 use native.Mathlib.Omega.{arith}
-use mathlib.Core.Path.{_≡_, refl, ap}
+use mathlib.Core.Path.{_≡_, ap}
 use Rattle.survey.specs.Survey.{Survey}
-use Rattle.survey.specs.Sets.{Set, In, Closed, Eligible, Contains, total, deadOf, costOf, D, L}
-use Rattle.survey.specs.Pick.{Candidate, BetterSet, Best, IsPick}
+use Rattle.survey.specs.Sets.{Set, Closed, Eligible, Contains, total, deadOf, costOf, D, L}
+use Rattle.survey.specs.Pick.{Candidate, BetterSet, IsPick}
 use Rattle.survey.specs.Rounds.{weights, totalPlus, totalMinus}
 use Rattle.survey.specs.Balance.{Amounts, BalanceAbove0, credit, debit, Settled, LargestSettled, Accepted, excess, lack}
 use Rattle.survey.specs.Sound.{Inside}

@@ -3,10 +3,10 @@
 use Prim.Native.Nat.{ℕ, _*_, _≤_, _<_}
 use native.Mathlib.Decide.{decLt}
 use native.Mathlib.Omega.{arith}
-use mathlib.Core.Path.{_≡_, refl, sym, ap, subst, _∙_}
-use mathlib.Core.Logic.{_⊎_, inl, inr, ⊎-elim}
-use mathlib.Core.Bool.{Bool, true, false}
-use mathlib.Core.List.{List, [], _∷_, _++_}
+use mathlib.Core.Path.{_≡_, refl, sym, ap, _∙_}
+use mathlib.Core.Logic.{_⊎_, inl, inr}
+use mathlib.Core.Bool.{Bool}
+use mathlib.Core.List.{List}
 use lib.ListN.{length, getD}
 use lib.Seq.{ext-getD}
 use lib.Dec.{eqb}
@@ -16,11 +16,11 @@ use Rattle.survey.specs.declared.answers.Refusal.{Refusal}
 use Rattle.survey.specs.Limits.{entryBytes, amountLimit}
 use Rattle.survey.specs.Survey.{Survey}
 use Rattle.survey.specs.Sets.{Same}
-use Rattle.survey.specs.Words.{entries, surveyAt, surveyOf, markedSet, amountsOf}
-use Rattle.survey.specs.Refusals.{Verdict, fine, refused, Clear, AllClear, Answers}
-use Rattle.survey.specs.Faults.{callLists, tooShort, listFaults, claimFaults, chooserFaults, checkerFaults}
+use Rattle.survey.specs.Words.{surveyAt, surveyOf, markedSet, amountsOf}
+use Rattle.survey.specs.Refusals.{Verdict, fine, refused, AllClear, Answers}
+use Rattle.survey.specs.Faults.{listFaults, claimFaults, chooserFaults, checkerFaults}
 use Rattle.survey.specs.Answers.{choiceVerdict}
-use Rattle.survey.specs.Promises.{Marked, AmountsPut, Chooses, ChosenLists, ChooserSays, CheckerSays}
+use Rattle.survey.specs.Promises.{Marked, AmountsPut, ChosenLists, ChooserSays, CheckerSays}
 use Rattle.survey.proofs.SameSets.{same-refl}
 use Rattle.survey.proofs.Unique.{pick-one, rounds-one}
 use Rattle.survey.proofs.Verdicts.{answers-one, fine-clear, clear-fine, afterwards, past}

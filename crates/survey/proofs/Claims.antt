@@ -1,13 +1,13 @@
 -- The table's rows 15 to 18 and the balance rule's three clauses say the same: a claim that passes the rows is accepted, and the other way round.
-use Prim.Native.Nat.{ℕ, _≤_, _<_}
+use Prim.Native.Nat.{ℕ, _<_}
 use native.Mathlib.Omega.{arith}
-use mathlib.Core.Path.{_≡_, refl}
+use mathlib.Core.Path.{_≡_}
 use mathlib.Core.List.{List}
 use Rattle.survey.specs.Survey.{Survey}
-use Rattle.survey.specs.Sets.{Set, In, Eligible, Contains, D}
+use Rattle.survey.specs.Sets.{Set, Eligible, Contains, D}
 use Rattle.survey.specs.Pick.{IsPick}
 use Rattle.survey.specs.Rounds.{weights}
-use Rattle.survey.specs.Balance.{Amounts, BalanceAbove0, LargestSettled, Accepted}
+use Rattle.survey.specs.Balance.{Amounts, LargestSettled, Accepted}
 use Rattle.survey.specs.Words.{markedSet}
 use Rattle.survey.specs.Refusals.{Clear, AllClear, fine, Answers}
 use Rattle.survey.specs.Faults.{notClosed, nothingDead, balanceAbove, notLargest, claimFaults}

@@ -2,13 +2,13 @@
 -- What is left outside it is the heaviest set (flow), and the largest settled set (checker): one notion serves both.
 use Prim.Native.Nat.{ℕ, _+_, _-_, _≤_, _<_}
 use native.Mathlib.Omega.{arith}
-use mathlib.Core.Path.{_≡_, refl, sym, _∙_}
-use mathlib.Core.Bool.{Bool, true, false, _&&_, not}
+use mathlib.Core.Path.{_≡_}
+use mathlib.Core.Bool.{Bool, true, false, not}
 use borrow.Author.Tests.{not-true, not-false}
 use Rattle.survey.specs.Survey.{Survey}
 use Rattle.survey.specs.Sets.{Set, In, Out, Closed, Eligible, Contains, total, outside}
 use Rattle.survey.specs.Rounds.{Weights, WeighsAtMost, Greatest, Heaviest, totalPlus, totalMinus}
-use Rattle.survey.specs.Balance.{Amounts, credit, debit, excess, lack, Settled, LargestSettled}
+use Rattle.survey.specs.Balance.{Amounts, credit, debit, excess, lack, LargestSettled}
 use Rattle.survey.specs.Sound.{Inside}
 use Rattle.survey.specs.Draining.{Obeys, HoldsLacks, Drains}
 use Rattle.survey.proofs.Totals.{total-le, total-zero, member-le, by-test, not-both}

@@ -1,11 +1,11 @@
 -- What all laws use of the sets among which the pick is sought: the empty one, unions and what two of them share are among them.
-use Prim.Native.Nat.{ℕ, _≤_, _<_}
+use Prim.Native.Nat.{ℕ, _<_}
 use native.Mathlib.Omega.{arith}
 use mathlib.Core.Path.{_≡_, refl}
 use mathlib.Core.Logic.{_↔_}
 use mathlib.Core.Bool.{Bool, true, false, _&&_, _||_}
 use Rattle.survey.specs.Survey.{Survey}
-use Rattle.survey.specs.Sets.{Set, In, Eligible, Contains, noGroup, allGroups, union, meet, D, L, deadOf}
+use Rattle.survey.specs.Sets.{Set, Eligible, Contains, noGroup, allGroups, union, meet, D, deadOf}
 use Rattle.survey.specs.Pick.{Candidate}
 use Rattle.survey.proofs.Totals.{not-both, total-zero, member-le}
 
@@ -31,6 +31,13 @@ pub second-in : (t u : Bool) → (t && u) ≡ true → u ≡ true
 second-in true u h = h
 second-in false u h = absurd (not-both h refl)
 
+-- what is said of each of two tests is said of both together, whichever way a link is looked along
+over-union : {t u v w : Bool} → (t ≡ true → v ≡ true) → (u ≡ true → w ≡ true) → (t || u) ≡ true → (v || w) ≡ true
+over-union {t} {u} {v} {w} f g = either-in t u (λ m. left-in v w (f m)) (λ m. right-in v w (g m))
+
+over-meet : {t u v w : Bool} → (t ≡ true → v ≡ true) → (u ≡ true → w ≡ true) → (t && u) ≡ true → (v && w) ≡ true
+over-meet {t} {u} {v} {w} f g m = both-in v w (f (first-in t u m)) (g (second-in t u m))
+
 module _ {s : Survey} where
   pub eligible-none : Eligible s noGroup
   eligible-none = record { closed = record { back = λ k l m. m } }
@@ -39,30 +46,10 @@ module _ {s : Survey} where
   eligible-all = record { closed = record { back = λ k l m. refl } }
 
   pub eligible-union : {A B : Set} → Eligible s A → Eligible s B → Eligible s (union A B)
-  eligible-union {A} {B} a b =
-      record {
-        closed =
-            record {
-              back =
-                  λ k l.
-                  let p = s .link k .from in
-                  either-in (A (s .link k .to)) (B (s .link k .to)) (λ m. left-in (A p) (B p) (a .closed .back k l m))
-                  (λ m. right-in (A p) (B p) (b .closed .back k l m));
-            };
-      }
+  eligible-union a b = record { closed = record { back = λ k l. over-union (a .closed .back k l) (b .closed .back k l) } }
 
   pub eligible-meet : {A B : Set} → Eligible s A → Eligible s B → Eligible s (meet A B)
-  eligible-meet {A} {B} a b =
-      record {
-        closed =
-            record {
-              back =
-                  λ k l m.
-                  let p = s .link k .from in
-                  let q = s .link k .to in
-                  both-in (A p) (B p) (a .closed .back k l (first-in (A q) (B q) m)) (b .closed .back k l (second-in (A q) (B q) m));
-            };
-      }
+  eligible-meet a b = record { closed = record { back = λ k l. over-meet (a .closed .back k l) (b .closed .back k l) } }
 
   pub union-left : (A B : Set) → Contains s (union A B) A
   union-left A B = record { has = λ g l m. left-in (A g) (B g) m }

@@ -2,10 +2,9 @@
 use Prim.Native.Nat.{ℕ, _<_}
 use mathlib.Core.Path.{_≡_, refl}
 use mathlib.Core.List.{List}
-use lib.Dec.{ltb}
 use borrow.Author.Tests.{lt-ltb}
 use Rattle.survey.specs.declared.stands.Stand.{Stand}
-use Rattle.survey.specs.Words.{groupAt, linkAt, upTo, surveyAt}
+use Rattle.survey.specs.Words.{groupAt, linkAt, surveyAt}
 
 module _ (n e : ℕ) (g : List ℕ) (wg : Stand) (l : List ℕ) (wl : Stand) where
   pub given-n : surveyAt n e g wg l wl .n ≡ n

@@ -2,9 +2,9 @@
 use Prim.Native.Nat.{ℕ, suc, _+_, _*_, _≤_, _<_}
 use native.Mathlib.Nat.{mul-comm, zero-add}
 use native.Mathlib.Omega.{arith}
-use mathlib.Core.Path.{_≡_, refl, sym, subst}
+use mathlib.Core.Path.{_≡_, sym, subst}
 use Rattle.survey.specs.Survey.{Survey}
-use Rattle.survey.specs.Sets.{Set, In, Eligible, Contains, Same, allGroups, outside, total, deadOf, costOf, D, L}
+use Rattle.survey.specs.Sets.{Set, In, Eligible, Contains, Same, allGroups, outside, deadOf, costOf, D, L}
 use Rattle.survey.specs.Rounds.{Weights, weights, WeighsZero, Heaviest, Rounds, last, more, RoundsOf}
 use Rattle.survey.specs.Balance.{Amounts, credit, debit, LargestSettled, Accepted, excess}
 use Rattle.survey.specs.Sound.{Inside}

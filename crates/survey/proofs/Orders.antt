@@ -3,7 +3,6 @@ use mathlib.Core.Path.{_≡_, refl}
 use mathlib.Core.Bool.{true}
 use mathlib.Core.List.{List, [], _∷_, map}
 use Prim.Native.Nat.{ℕ}
-use Rattle.survey.specs.Survey.{Survey}
 use Rattle.survey.specs.Refusals.{placeOf, lookingOrder, InOrder, none, here, later}
 use Rattle.survey.specs.Faults.{readerFaults, chooserFaults, checkerFaults}
 use Rattle.survey.specs.Answers.{sortNumber}

@@ -4,7 +4,7 @@ use native.Mathlib.Omega.{arith}
 use mathlib.Core.Path.{_≡_, refl, sym, subst}
 use mathlib.Core.Bool.{Bool, true, false, not}
 use Rattle.survey.specs.Survey.{Survey}
-use Rattle.survey.specs.Sets.{Set, In, Out, allGroups, outside, total, D}
+use Rattle.survey.specs.Sets.{Set, In, allGroups, outside, total, D}
 use Rattle.survey.specs.Rounds.{Weights, weights, totalPlus, totalMinus, WeighsZero}
 use Rattle.survey.specs.Balance.{Amounts, credit, debit, Accepted, excess}
 use Rattle.survey.specs.Sound.{Inside}

@@ -1,10 +1,10 @@
 -- What a set says from n on counts for nothing: whatever the definitions say of a set holds of each set with the same groups.
-use Prim.Native.Nat.{ℕ, zero, suc, _<_}
+use Prim.Native.Nat.{ℕ, zero}
 use mathlib.Core.Path.{_≡_, refl, sym, _∙_}
 use mathlib.Core.Bool.{Bool, true, false}
 use native.Mathlib.Omega.{arith}
 use Rattle.survey.specs.Survey.{Survey}
-use Rattle.survey.specs.Sets.{Set, Contains, Same, Closed, Eligible, sum, total, deadOf, costOf}
+use Rattle.survey.specs.Sets.{Set, Contains, Same, Closed, Eligible, total, deadOf, costOf}
 use Rattle.survey.specs.Pick.{Candidate, BetterSet, Best, IsPick}
 use Rattle.survey.specs.Rounds.{Weights, weights, WeighsAtMost, WeighsZero, Greatest, Heaviest, Rounds, last, more}
 use Rattle.survey.specs.Balance.{Amounts, Settled, LargestSettled}

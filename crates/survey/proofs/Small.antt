@@ -1,19 +1,15 @@
 -- How large a refusal's number and place can be, so that one number of 64 bits holds them, and that no refusal's number is 0.
-use Prim.Native.Nat.{ℕ, _+_, _*_, _/_, _%_, _≤_, _<_, zero-le}
+use Prim.Native.Nat.{ℕ, _≤_, _<_, zero-le}
 use native.Mathlib.Nat.{le-refl}
 use native.Mathlib.Omega.{arith}
-use mathlib.Core.Path.{_≡_, refl, ap, sym, subst, _∙_}
+use mathlib.Core.Path.{_≡_, sym, subst}
 use mathlib.Core.Bool.{Bool, true, false, cond, _||_}
 use mathlib.Core.Logic.{_⊎_, inl, inr}
-use mathlib.Core.List.{List, [], _∷_, _++_}
-use lib.ListN.{length}
-use Rattle.survey.specs.declared.answers.Place.{Place}
+use mathlib.Core.List.{List, [], _∷_}
 use Rattle.survey.specs.declared.answers.Place.the-variants.{Nothing, Block, Group, Link}
 use Rattle.survey.specs.declared.answers.Refusal.{Refusal}
-use Rattle.survey.specs.Limits.{groupLimit, linkLimit}
 use Rattle.survey.specs.Answers.{placeNumber}
-use Rattle.survey.specs.Refusals.{Verdict, fine, refused, Fault, Clear, Given, First, Answers, refusal, placeOf, within, whole, among}
-use Rattle.survey.proofs.Verdicts.{given, past}
+use Rattle.survey.specs.Refusals.{Verdict, refused, Fault, Clear, Given, First, Answers, refusal, placeOf, within, whole, among}
 
 -- A look at the first of some faults: it is the answer, or it is not there and the answer is the others'.
 pub look : (f : Fault) (fs : List Fault) {v : Verdict} → Answers (f ∷ fs) v → Given f v ⊎ (Clear f × Answers fs v)

@@ -1,12 +1,11 @@
 -- The refusals of reader, chooser and checker are small.
-use Prim.Native.Nat.{ℕ, _+_, _*_, _/_, _%_, _^_, _≤_, _<_}
+use Prim.Native.Nat.{ℕ, _+_, _^_, _≤_, _<_}
 use native.Mathlib.Omega.{arith}
-use mathlib.Core.Path.{_≡_}
 use mathlib.Core.Logic.{_⊎_, inl, inr, ⊎-elim}
 use mathlib.Core.List.{List, [], _∷_, _++_}
 use lib.ListN.{length}
 use Rattle.survey.specs.declared.answers.Refusal.{Refusal}
-use Rattle.survey.specs.Limits.{groupLimit, linkLimit, blockBytes}
+use Rattle.survey.specs.Limits.{groupLimit, linkLimit}
 use Rattle.survey.specs.Survey.{Survey}
 use Rattle.survey.specs.Balance.{Amounts}
 use Rattle.survey.specs.Words.{surveyOf, amountsOf}

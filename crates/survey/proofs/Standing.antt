@@ -1,11 +1,10 @@
 -- Where the pairs of a file stand: by their words, by base and gap, and where a block ends and the next begins.
 -- Assumes nothing.
-use Prim.Native.Nat.{ℕ, _+_, _-_, _*_, _/_, _%_, _<_}
+use Prim.Native.Nat.{ℕ, _+_, _-_, _*_, _/_, _<_}
 use mathlib.Core.Path.{_≡_, refl, ap}
 use mathlib.Core.List.{List}
 use native.Mathlib.Omega.{arith}
 use Rattle.survey.specs.Limits.{blockBytes, contentWords, blockPairs, entryBytes}
-use Rattle.survey.specs.Survey.{Group}
 use Rattle.survey.specs.Words.{word, blockOfPair, wordOfPair, standsAt}
 use Rattle.survey.specs.SurveyFile.{blockWord, nIn, eIn, firstGroupBlock, firstLinkBlock, inBlocks, surveyIn}
 use Rattle.survey.proofs.GivenSurvey.{given-group}

@@ -1,7 +1,7 @@
 -- Specification 15, "Drawings": the cases of 15.2, in one list, and table 1, the closed sets of F2.
 use Prim.Native.Nat.{ℕ}
 use mathlib.Core.Path.{_≡_}
-use mathlib.Core.Bool.{Bool, true, false, _||_}
+use mathlib.Core.Bool.{false, _||_}
 use mathlib.Core.List.{List, [], _∷_, _++_}
 use lib.ListN.{length, getD}
 use lib.Dec.{eqb}
@@ -9,7 +9,7 @@ use Rattle.survey.specs.declared.answers.Place.{Place}
 use Rattle.survey.specs.declared.answers.Place.the-variants.{Nothing, Group}
 use Rattle.survey.specs.Survey as survey
 use Rattle.survey.specs.Survey.{Survey}
-use Rattle.survey.specs.Sets.{Set, Closed, Same, D, L}
+use Rattle.survey.specs.Sets.{Set, Closed, D, L}
 use Rattle.survey.specs.Pick.{IsPick}
 use Rattle.survey.specs.Rounds.{RoundsOf}
 use Rattle.survey.specs.Refusals.{Verdict, fine, refused, Answers}

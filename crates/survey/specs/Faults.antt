@@ -1,10 +1,10 @@
 -- Specification 11, "Faults": the table of 11.1, row by row with the number and the sort of place, and which rows each part looks for.
-use Prim.Native.Nat.{ℕ, zero, suc, _+_, _-_, _*_, _/_, _%_, _<_, _≤_}
+use Prim.Native.Nat.{ℕ, _+_, _-_, _%_, _<_, _≤_}
 use mathlib.Core.Path.{_≡_}
 use mathlib.Core.Logic.{_⊎_}
 use mathlib.Core.List.{List, [], _∷_, _++_}
 use lib.ListN.{length, getD}
-use Rattle.survey.specs.Limits.{groupLimit, linkLimit, countLimit, amountLimit, blockBytes, contentWords}
+use Rattle.survey.specs.Limits.{groupLimit, linkLimit, countLimit, amountLimit, blockBytes}
 use Rattle.survey.specs.Survey.{Survey, Ascends, Cycle}
 use Rattle.survey.specs.Sets.{Set, In, Out, D, deadOf}
 use Rattle.survey.specs.Rounds.{weights}

@@ -1,5 +1,5 @@
 -- Specification 2, "Limits": each number here and nowhere else.
-use Prim.Native.Nat.{ℕ, _+_, _*_}
+use Prim.Native.Nat.{ℕ, _*_}
 
 -- 2: the most groups of a survey; the least is 1
 abbrev pub groupLimit : ℕ

@@ -1,10 +1,10 @@
 -- Specification 10, "Refusals": what a refusal is and which one is given, for every part alike.
-use Prim.Native.Nat.{ℕ, zero, suc, _<_, _≤_}
+use Prim.Native.Nat.{ℕ, _<_}
 use mathlib.Core.Path.{_≡_}
 use mathlib.Core.Logic.{_⊎_}
 use mathlib.Core.Bool.{Bool, cond, _&&_, _||_}
-use mathlib.Core.List.{List, [], _∷_, map}
-use lib.Dec.{leb, eqb}
+use mathlib.Core.List.{List, [], _∷_}
+use lib.Dec.{leb}
 use Rattle.survey.specs.declared.answers.Place.{Place}
 use Rattle.survey.specs.declared.answers.Place.the-variants.{Nothing, Block, Group, Link}
 use Rattle.survey.specs.declared.answers.Refusal.{Refusal}

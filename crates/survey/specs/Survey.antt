@@ -1,5 +1,5 @@
 -- Specification 3, "Survey": groups, links, and what links are like.
-use Prim.Native.Nat.{ℕ, _<_, _≤_}
+use Prim.Native.Nat.{ℕ, _<_}
 use mathlib.Core.Path.{_≡_}
 use mathlib.Core.Logic.{_⊎_}
 

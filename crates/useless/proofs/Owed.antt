@@ -1,13 +1,11 @@
 -- What is owed: every admitted survey has its own pick coming to it (Specification 1.4, demand 2). With lists long enough, the chooser's promise allows
 -- no refusal of it.
 use Prim.Native.Nat.{ℕ}
-use native.Mathlib.Omega.{arith}
 use mathlib.Core.Path.{_≡_, refl, sym, subst}
 use mathlib.Core.List.{List}
-use Rattle.survey.specs.declared.answers.Refusal.{Refusal}
 use Rattle.survey.specs.declared.answers.Choice.{Choice}
 use Rattle.survey.specs.Survey.{Survey}
-use Rattle.survey.specs.Refusals.{Verdict, fine, refused, Fault, AllClear, Answers}
+use Rattle.survey.specs.Refusals.{AllClear, Answers}
 use Rattle.survey.specs.Faults.{listFaults, chooserFaults, Admitted}
 use Rattle.survey.specs.Answers.{choiceVerdict}
 use Rattle.survey.specs.Promises.{Chooses, ChosenLists, ChooserSays}

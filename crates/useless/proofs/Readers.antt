@@ -1,13 +1,12 @@
 -- Specification 15.5, useless readers: none of them gives an answer that the reader's promise allows.
 use Prim.Native.Nat.{ℕ, _*_, _<_}
 use native.Mathlib.Omega.{arith}
-use mathlib.Core.Path.{_≡_, refl, sym, ap, subst, _∙_}
+use mathlib.Core.Path.{_≡_, refl, sym, subst, _∙_}
 use mathlib.Core.List.{List, [], _∷_}
 use lib.ListN.{getD}
 use Rattle.survey.specs.Limits.{entryBytes}
 use Rattle.survey.specs.declared.answers.Refusal.{Refusal}
 use Rattle.survey.specs.declared.answers.Reading.{Reading}
-use Rattle.survey.specs.Survey.{Survey}
 use Rattle.survey.specs.Words.{entries, surveyOf}
 use Rattle.survey.specs.SurveyFile.{nIn, surveyIn}
 use Rattle.survey.specs.Refusals.{Clear, AllClear}

@@ -2,7 +2,6 @@
 use Rattle.refusals.proofs.Looking.{told, told-not, stop-at, stop-whole, whole-clear, found-at, found-missing}
 use borrow.Author.Tests.{not-true, not-false}
 use Rattle.survey.proofs.Verdicts.{past, none-left}
-use Rattle.survey.specs.Faults.{badKind, badUnused}
 use borrow.Author.Needs.{needs}
 use Rattle.blocks.proofs.file.layout_faults.Statement.{statement}
 use Rattle.blocks.proofs.file.layout_faults.Tie as tie
