@@ -1,4 +1,4 @@
-// Which surveys are admitted, given as lists: refusals 5 and 8 to 12. The lists may be lent ones or stand in the blocks of a file.
+// Whether a survey is admitted: refusals 5 and 8 to 12. Its groups and links stand in lent lists, or in a file.
 mod groups;
 mod lists;
 

@@ -1,4 +1,4 @@
--- Two admitted files with the same n, e and lists are the same bytes: every word of a block is its number, its kind, n, e, a word of a pair, an unused
+-- An admitted file is told, byte for byte, by the survey in it: every word of a block is its number, its kind, n, e, a word of a pair, an unused
 -- 0, or a check word, which the others determine; and a word determines its four bytes.
 -- Assumes nothing.
 use Prim.Native.Nat.{ℕ, zero, suc, _+_, _-_, _*_, _/_, _%_, _≤_, _<_}

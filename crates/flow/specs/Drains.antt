@@ -170,7 +170,7 @@ pub record Grown (n : ℕ) (ways t order : List ℕ) (c : ℕ) (t′ order′ : 
 
 -- ---- the least set
 
--- T is the least set that holds every group with a lack and obeys both rules
+-- no smaller set than T has all groups with a lack in it and obeys both rules
 pub record Least (s : Survey) (x : Amounts) (la : ℕ → ℕ) (T : Set) : Type 0 where
   pub obeys : Obeys s x T
   pub holds : (g : ℕ) → g < s .n → 0 < la g → In T g
