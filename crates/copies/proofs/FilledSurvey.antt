@@ -56,7 +56,8 @@ filled-survey {f} {g} {g′} {l} {l′} p q =
 
 -- Two pairs of lists that begin with the same entries give the same survey.
 pub same-entries :
-    (n e : ℕ) (g g′ l l′ : List ℕ) → ((i : ℕ) → i < entryBytes * n → getD g i 0 ≡ getD g′ i 0) → ((i : ℕ) → i < entryBytes * e → getD l i 0 ≡ getD l′ i 0)
+    (n e : ℕ) (g g′ l l′ : List ℕ) → ((i : ℕ) → i < entryBytes * n → getD g i 0 ≡ getD g′ i 0)
+    → ((i : ℕ) → i < entryBytes * e → getD l i 0 ≡ getD l′ i 0)
     → surveyOf n e g l ≡ surveyOf n e g′ l′
 unfolding surveyAt
 same-entries n e g g′ l l′ p q =

@@ -72,7 +72,9 @@ first-fault (f ∷ fs) {r} {x} a e = at (look f fs a) (λ y. first-fault fs y e)
         }
 
 -- the pick is the only one
-pick-given : {s : Survey} {x rounds : ℕ} {marks amounts marks′ amounts′ : List ℕ} → x ≡ 65_536 * rounds → Chooses s rounds marks amounts marks′ amounts′ → GivesPick s x marks′
+pick-given :
+    {s : Survey} {x rounds : ℕ} {marks amounts marks′ amounts′ : List ℕ} → x ≡ 65_536 * rounds → Chooses s rounds marks amounts marks′ amounts′
+    → GivesPick s x marks′
 pick-given {rounds = rounds} e c = record { rounds = rounds; is = e; counted = c .counted; pick = c .pick; only = λ S p. pick-one p (c .pick) }
 
 survey-given :
@@ -108,7 +110,8 @@ pub checker-outcome :
     → Outcome (checkerFaults n e groups links marks amounts) x (Unit {0}) (x ≡ 0)
 checker-outcome {n} {e} {groups} {links} {marks} {amounts} {x} a = at (a .judgement) (a .is) (a .says)
   where
-    at : (r : Judgement) → x ≡ judgementNumber r → CheckerSays n e groups links marks amounts r → Outcome (checkerFaults n e groups links marks amounts) x (Unit {0}) (x ≡ 0)
+    at : (r : Judgement) → x ≡ judgementNumber r → CheckerSays n e groups links marks amounts r
+        → Outcome (checkerFaults n e groups links marks amounts) x (Unit {0}) (x ≡ 0)
     at (Judgement.Refused r) q s = refuses (first-fault (checkerFaults n e groups links marks amounts) (s .verdict) q) tt
     at Judgement.Accepted q s = gives (fine-clear (checkerFaults n e groups links marks amounts) (s .verdict)) q
 

@@ -43,7 +43,9 @@ marked-one {s} {before} {after} {after′} a b e =
     at g (no d) = a .rest g (omega arith) ∙ sym (b .rest g (omega arith))
 
 -- lists of amounts that are put alike, but for the first e entries: the same once those are
-amounts-one : {before a a′ : List ℕ} {e : ℕ} → AmountsPut before a e → AmountsPut before a′ e → ((i : ℕ) → i < entryBytes * e → getD a i 0 ≡ getD a′ i 0) → a ≡ a′
+amounts-one :
+    {before a a′ : List ℕ} {e : ℕ} → AmountsPut before a e → AmountsPut before a′ e
+    → ((i : ℕ) → i < entryBytes * e → getD a i 0 ≡ getD a′ i 0) → a ≡ a′
 amounts-one {before} {a} {a′} {e} x y h =
     ext-getD 0 a a′ (x .long ∙ sym (y .long)) (λ i l. at i (decLt i (entryBytes * e)))
   where
@@ -74,7 +76,8 @@ chooser-one {n} {e} {groups} {links} {marks} {amounts} {r} {r′} {m} {m′} {a}
     s : Survey
     s = surveyOf n e groups links
 
-    at : (r r′ : Choice) → choiceVerdict r ≡ choiceVerdict r′ → ChosenLists s marks amounts r m a → ChosenLists s marks amounts r′ m′ a′ → SameChoice e r r′ m m′ a a′
+    at : (r r′ : Choice) → choiceVerdict r ≡ choiceVerdict r′ → ChosenLists s marks amounts r m a → ChosenLists s marks amounts r′ m′ a′
+        → SameChoice e r r′ m m′ a a′
     at (Choice.Refused u) (Choice.Refused v) q p o =
         let same : a ≡ a′ = p .1 ∙ sym (o .1) in
         record {

@@ -29,7 +29,8 @@ returns : tie.Need-returns
 returns c =
     let weighed = c .before .before .before .before .before .before .before .before .before .before .before in
     let asked = weighed .before .before .before .before .before .before .before .before .before .before .pre in
-    balances-put (asked .rule) (weighed .before .before .before .live-sum .ensures) (asked .room) (weighed .put-weights .ensures) (c .before .before .before .before .add-amounts .ensures)
+    let sum = weighed .before .before .before .live-sum .ensures in
+    balances-put (asked .rule) sum (asked .room) (weighed .put-weights .ensures) (c .before .before .before .before .add-amounts .ensures)
 
 pub put-balances-spec : {M : Type 1} → statement M
 put-balances-spec =
