@@ -1,4 +1,6 @@
 // Whether a survey is admitted: refusals 5 and 8 to 12. Its groups and links stand in lent lists, or in a file.
+#![tactic(auto)]
+
 mod groups;
 mod lists;
 

@@ -7,7 +7,7 @@ use counts::Group;
 use entries::group_at;
 use survey::stands::Stand;
 
-#[derive(Drop)]
+#[derive(Clone, Copy)]
 pub struct GroupList {
     pub n: usize,
     pub stand: Stand,

@@ -1,5 +1,7 @@
 // The balance rule, past what is said of marks, amounts and links one by one: refusals 17 and 18. It searches for no pick: that what the rule
 // accepts is the pick is proved of the rule.
+#![tactic(auto)]
+
 mod balances;
 mod largest;
 mod sizes;

@@ -1,4 +1,6 @@
 // Sets of at most 128 groups as the binary digits of two words, and rows of such sets in a list of words.
+#![tactic(auto)]
+
 ghost use Rattle.std.specs.Prelude.{◌≡◌, ◌+◌, ◌*◌, ◌^◌, ◌≤◌, ◌<◌, length};
 ghost use Rattle.std.specs.Int.Count.{count_trailing_zeros};
 ghost use Rattle.bits.specs.Bits.{without, put_bit, cut_bit};

@@ -1,4 +1,6 @@
 // The one number that each answer is over the boundary.
+#![tactic(auto)]
+
 ghost use Rattle.std.specs.Prelude.{◌≡◌, ◌<◌};
 ghost use Rattle.survey.specs.Answers.{sort_number, refusal_number, reading_number, choice_number, judgement_number};
 ghost use Rattle.boundary.specs.Packed.{SmallRefusal, SmallReading, SmallChoice, SmallJudgement};

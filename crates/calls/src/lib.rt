@@ -1,5 +1,7 @@
 // What a call of the chooser or of the checker is refused for before all else: a list that is too short, and then whatever its survey is refused
 // for. Both make it their first step, so that past it neither has to ask whether an entry is there.
+#![tactic(auto)]
+
 ghost use Rattle.survey.specs.Refusals.{Answers};
 ghost use Rattle.survey.specs.Faults.{OneShort, call_lists, chooser_faults};
 ghost use Rattle.survey.specs.Answers.{admission_verdict};

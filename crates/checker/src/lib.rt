@@ -1,4 +1,6 @@
 // The checker of claims: one mark for each group and one amount for each link, held to the balance rule. It writes nothing.
+#![tactic(auto)]
+
 mod claims;
 
 ghost use Rattle.survey.specs.Words.{survey_of, amounts_of};

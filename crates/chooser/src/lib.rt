@@ -1,5 +1,7 @@
 // The chooser: which groups of a survey may be swept. Rounds over the heaviest closed sets (Specification 6), on local arrays; marks and
 // amounts are written once, at the end, so that a refusal leaves the lent lists as they were.
+#![tactic(auto)]
+
 mod copies;
 mod rounds;
 

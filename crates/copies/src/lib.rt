@@ -1,4 +1,6 @@
 // The pairs of a file, which stand in its blocks, copied into a lent list, where they stand one after the other. Each is read through the view of its block.
+#![tactic(auto)]
+
 ghost use Rattle.std.specs.Prelude.{◌+◌, ◌*◌, ◌≤◌, ◌≡◌, length};
 ghost use Rattle.survey.specs.SurveyFile.{in_blocks};
 ghost use Rattle.survey.specs.Promises.{Filled};

@@ -1,4 +1,6 @@
 // What the ingest tool links (Specification 12). What goes in is numbers and slices of bytes. Each answer is one number; crates/boundary packs it.
+#![tactic(auto)]
+
 ghost use Rattle.corkgully.specs.Numbers.{ReadNumber, ChooseNumber, CheckNumber};
 
 use boundary::{choice_number, judgement_number, reading_number};

@@ -1,26 +1,28 @@
 // Counts (Specification 3.1). Dead and live are different sorts of number, never mixed: so each has a type of its own, and what
 // compares them, a cross product or a weight, takes one of each.
+#![tactic(auto)]
+
 ghost use Rattle.std.specs.Prelude.{◌≡◌, ◌+◌, ◌*◌, ◌^◌, ◌≤◌, ◌<◌};
 ghost use Rattle.survey.specs.Limits.{sum_limit};
 ghost use Rattle.survey.specs.Sets as sets;
 ghost use Rattle.counts.specs.Counts.{group_of, CountsFit, WeightIs};
 
 // A count of dead objects, or a sum of such.
-#[derive(Drop)]
+#[derive(Clone, Copy)]
 pub struct Dead(pub u64);
 
 // A count of live objects, or a sum of such; also what opening a group costs.
-#[derive(Drop)]
+#[derive(Clone, Copy)]
 pub struct Live(pub u64);
 
-#[derive(Drop)]
+#[derive(Clone, Copy)]
 pub struct Group {
     pub dead: Dead,
     pub live: Live,
 }
 
 // A weight is signed: plus - minus. The two are kept apart, so that nothing is subtracted.
-#[derive(Drop)]
+#[derive(Clone, Copy)]
 pub struct Weight {
     pub plus: u64,
     pub minus: u64,

@@ -1,5 +1,7 @@
 // 11: whether some group comes back to itself along the links. The test peels: it counts the links into each group, takes out a group that no link comes to, takes its links
 // off the counts, and so on. Where all groups can be peeled there is no cycle, and where some are left, each has a link from one of them.
+#![tactic(auto)]
+
 mod halves;
 pub mod limits;
 pub mod lists;

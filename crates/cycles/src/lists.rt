@@ -7,7 +7,7 @@ use entries::{Link, link_at};
 use survey::stands::Stand;
 
 // Both ends of each of the e links are to be below n.
-#[derive(Drop)]
+#[derive(Clone, Copy)]
 pub struct LinkList {
     pub n: usize,
     pub e: usize,

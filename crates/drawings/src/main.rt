@@ -1,4 +1,6 @@
 // The cases of Specification 15.3, which are run and not proved: one printed line for each. Some are files of data/, some lists.
+#![tactic(auto)]
+
 ghost use Rattle.io.specs.Counts.{IsPrefixLen};
 
 use chooser::choose;

@@ -1,5 +1,7 @@
 // Entries: a group, a link or an amount is 8 bytes. In a lent list entries stand one after the other. The groups and links of a file stand in its blocks, and
 // are read there, each through the view of its block: so one function reads a group from either, with no copy.
+#![tactic(auto)]
+
 ghost use Rattle.std.specs.Prelude.{◌≡◌};
 ghost use Rattle.survey.specs.Words.{lent, entries, group_at, link_at, amounts_of};
 ghost use Rattle.counts.specs.Counts.{GroupIs};
@@ -11,13 +13,13 @@ use views::view::block_word;
 use words::{long_word_at, put_long_word, word_at};
 
 // The two words of an entry.
-#[derive(Drop)]
+#[derive(Clone, Copy)]
 pub struct Pair {
     pub first: u32,
     pub second: u32,
 }
 
-#[derive(Drop)]
+#[derive(Clone, Copy)]
 pub struct Link {
     pub from: usize,
     pub to: usize,

@@ -1,4 +1,6 @@
 // Waves: the heaviest closed set, with the amounts that prove it, and the set that drains, which the checker asks for too.
+#![tactic(auto)]
+
 mod chains;
 mod copies;
 pub mod draining;

@@ -1,5 +1,7 @@
 // What the header of a survey file says, and the blocks that follow from it: how many, of which kind, and which of their words are in use.
 // A header, as many blocks as the groups fill, and as many as the links do (Specification 9).
+#![tactic(auto)]
+
 ghost use Rattle.std.specs.Prelude.{◌≡◌, ◌-◌, ◌*◌, ◌^◌, ◌<◌};
 ghost use Rattle.survey.specs.Limits.{block_pairs};
 ghost use Rattle.survey.specs.SurveyFile.{n_in, e_in, blocks_for, first_link_block, blocks_needed, kind_of, pair_words, used_words};

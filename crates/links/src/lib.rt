@@ -1,4 +1,6 @@
 // What a survey is refused for by its links alone: refusals 9 to 11. The links may stand in a lent list or in the blocks of a file.
+#![tactic(auto)]
+
 mod looks;
 
 ghost use Rattle.std.specs.Prelude.{◌≤◌};

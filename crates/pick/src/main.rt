@@ -1,5 +1,7 @@
 // The pick of one survey from standard input, or why it is refused (Specification 14). Where a read fails, the input ends. What is printed is
 // settled by printing::print_pick.
+#![tactic(auto)]
+
 use printing::print_pick;
 
 // one byte more than the largest file, so that a longer one is seen to be longer

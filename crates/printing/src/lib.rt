@@ -1,4 +1,6 @@
 // What the program prints of a survey file (Specification 14), put into a list of bytes that is lent.
+#![tactic(auto)]
+
 mod lines;
 mod text;
 

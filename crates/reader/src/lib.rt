@@ -1,5 +1,7 @@
 // The reader of survey files. It looks at the lent lists, then at the blocks, then at the survey they hold, and copies the survey out only when
 // nothing is at fault: so a refusal has changed nothing. Every word that it takes from the file, it takes through the view of a block.
+#![tactic(auto)]
+
 ghost use Rattle.survey.specs.Refusals.{Answers};
 ghost use Rattle.survey.specs.Faults.{file_faults};
 ghost use Rattle.survey.specs.Answers.{admission_verdict};

@@ -1,6 +1,6 @@
 // What a search finds: the place that was looked for, or that there is none.
 
-#[derive(Drop)]
+#[derive(Clone, Copy)]
 pub enum Found {
     At(usize),
     Missing,

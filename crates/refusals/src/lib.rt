@@ -1,4 +1,6 @@
 // Refusals: the struct with its place, made for each number of the table, and what a search for a fault finds.
+#![tactic(auto)]
+
 pub mod found;
 
 ghost use Rattle.std.specs.Prelude.{◌≡◌};

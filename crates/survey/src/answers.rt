@@ -1,6 +1,6 @@
 // Refusals, each with its number and its place (Specification 10.1), and the answers of the parts (12.2).
 
-#[derive(Drop)]
+#[derive(Clone, Copy)]
 pub enum Place {
     Nothing,
     Block(usize),
@@ -8,35 +8,35 @@ pub enum Place {
     Link(usize),
 }
 
-#[derive(Drop)]
+#[derive(Clone, Copy)]
 pub struct Refusal {
     pub number: u64,
     pub place: Place,
 }
 
 // Whether a survey given as lists is admitted.
-#[derive(Drop)]
+#[derive(Clone, Copy)]
 pub enum Admission {
     Refused(Refusal),
     Admitted,
 }
 
 // The reader's answer: the survey's n and e.
-#[derive(Drop)]
+#[derive(Clone, Copy)]
 pub enum Reading {
     Refused(Refusal),
     Survey { n: usize, e: usize },
 }
 
 // The chooser's answer: the count of rounds.
-#[derive(Drop)]
+#[derive(Clone, Copy)]
 pub enum Choice {
     Refused(Refusal),
     Chosen { rounds: u64 },
 }
 
 // The checker's answer.
-#[derive(Drop)]
+#[derive(Clone, Copy)]
 pub enum Judgement {
     Refused(Refusal),
     Accepted,

@@ -1,5 +1,3 @@
 -- The laws of one block. Other crates' proofs cite them.
 pub mod ViewLaws
 pub mod SumLaws
-pub mod ThroughView
-pub mod OverFile

@@ -9,7 +9,7 @@ ghost use Rattle.views.specs.Sums.{sums_of};
 use crate::view::{block_check, block_word};
 use std::num::wrapping_add_u32;
 
-#[derive(Drop)]
+#[derive(Clone, Copy)]
 pub struct Sums {
     pub a: u32,
     pub b: u32,

@@ -9,7 +9,7 @@ ghost use Rattle.views.specs.Views.{Within, block_of, Views};
 
 use words::word_at;
 
-#[derive(Drop)]
+#[derive(Clone, Copy)]
 pub struct Block<'a> {
     pub bytes: &'a [u8],
     pub number: usize,

@@ -1,4 +1,6 @@
 // D and L of a marked set (Specification 4.4), and the weights that they give each group (6.1).
+#![tactic(auto)]
+
 ghost use Rattle.std.specs.Prelude.{◌≡◌};
 ghost use Rattle.survey.specs.Sets.{only, D, L};
 ghost use Rattle.survey.specs.Sets as sets;

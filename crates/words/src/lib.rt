@@ -1,4 +1,6 @@
 // Numbers in bytes, low byte first. A word is 4 bytes and a long word two words, the low one first.
+#![tactic(auto)]
+
 ghost use Rattle.std.specs.Prelude.{◌≡◌, ◌+◌, ◌≤◌, ◌<◌, length, get_or};
 ghost use Rattle.survey.specs.Words.{word, long_word};
 ghost use Rattle.words.specs.Words.{with_word, with_long_word};
