@@ -1,0 +1,11 @@
+use Rattle.cycles.specs.Halves.{low_of}
+use native.Mathlib.Omega.{arith}
+use mathlib.Core.Path.{refl}
+use Rattle.cycles.proofs.halves.low_at.Goals as goal
+
+pub overflow_cast-result : goal.overflow_cast-result
+overflow_cast-result c = omega (arith, c.shared_slice_known-1.given c.args.g)
+
+pub returns : goal.returns
+unfolding low_of
+returns c = refl
