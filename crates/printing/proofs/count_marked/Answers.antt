@@ -1,0 +1,25 @@
+use Prim.Native.Nat.{◌-◌}
+use mathlib.Core.Logic.{⊎_elim}
+use mathlib.Core.Path.{◌≡◌, sym, ◌∙◌}
+use native.Mathlib.Omega.{arith}
+use Rattle.weights.proofs.MarkedLaws.{sum_none}
+use Rattle.printing.proofs.NumberLaws.{ones, count_marked, count_unmarked}
+use Rattle.printing.proofs.count_marked.Goals as goal
+
+pub loop-g-init : goal.loop-g-init
+loop-g-init c = (omega arith, omega arith, sym (sum_none (ones c.args.marks.now)))
+
+pub bounds-marks-g : goal.bounds-marks-g
+bounds-marks-g c = omega (arith, c.requires)
+
+pub overflow_add-k : goal.overflow_add-k
+overflow_add-k c = omega (arith, c.requires)
+
+pub overflow_add-g : goal.overflow_add-g
+overflow_add-g c = omega (arith, c.requires)
+
+pub loop-g-preserved : goal.loop-g-preserved
+loop-g-preserved c = (omega arith, ⊎_elim (λ w. omega arith) (λ w. omega arith) c.if-marks-g-eq1.branch, ⊎_elim (λ w. w.1 ∙ count_marked c.args.marks.now c.loop-g.g c.loop-g.invariant.2 w.0.taken) (λ w. w.1 ∙ count_unmarked c.args.marks.now c.loop-g.g c.loop-g.invariant.2 w.0.left) c.if-marks-g-eq1.branch)
+
+pub returns : goal.returns
+returns c = let done : c.loop-g.g ≡ c.args.n = omega arith in rw done at c.loop-g.invariant.2
