@@ -2,7 +2,9 @@
 // settled by printing::print_pick.
 #![tactic(auto)]
 
+use input::read_full;
 use printing::print_pick;
+use std::io;
 
 // one byte more than the largest file, so that a longer one is seen to be longer
 const FILE: usize = 10_753;
@@ -10,10 +12,10 @@ const FILE: usize = 10_753;
 // room for whatever is printed
 const TEXT: usize = 1_024;
 
-fn main() {
+fn main(rt: HostRuntime) -> io::Result<()> {
     let mut file = [0u8; FILE];
-    let n = io::read_full(libc::STDIN_FILENO, &mut file);
+    let n = read_full(&mut rt.reader(), &mut file);
     let mut text = [0u8; TEXT];
     let k = print_pick(&file[..n], &mut text);
-    io::write_all(libc::STDOUT_FILENO, &text[..k]);
+    rt.write_all(&text[..k])
 }

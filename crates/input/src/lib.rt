@@ -1,0 +1,21 @@
+// Bytes from outside, a survey file's among them, read into a list that is lent.
+#![tactic(auto)]
+
+ghost use Rattle.std.specs.Prelude.{◌≤◌, length};
+
+use std::io::Read;
+
+// Reads until the list is full, the input ends or a read fails. How many bytes came: they stand at the front of the list.
+pub fn read_full<R: Read>(input: &mut R, file: &mut [u8]) -> usize
+    ensures { result ≤ length file.new }
+{
+    let mut done = 0;
+    while done < file.len() {
+        match input.read(&mut file[done..]) {
+            Ok(0) => return done,
+            Ok(n) => done += n,
+            Err(_) => return done,
+        }
+    }
+    done
+}
