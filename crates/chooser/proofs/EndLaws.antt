@@ -11,7 +11,7 @@ use borrow.Author.Tests.{eq-eqb}
 use Rattle.survey.specs.Limits.{group_limit, link_limit, entry_bytes}
 use Rattle.survey.specs.Sets.{Same}
 use Rattle.survey.specs.Balance.{Accepted}
-use Rattle.survey.specs.Words.{survey_at, survey_of, marked_set, amounts_of, lent}
+use Rattle.survey.specs.Words.{survey_at, survey_of, marked_set, amounts_of}
 use Rattle.survey.specs.Promises.{Marked, AmountsPut, Chooses}
 use Rattle.survey.proofs.SameSets.{rounds_end_same}
 use Rattle.survey.proofs.SameClaims.{SameAmounts, accepted_same}

@@ -8,9 +8,9 @@ use native.Mathlib.Omega.{arith}
 use borrow.Author.Count.{below_more}
 use Rattle.survey.specs.declared.answers.Refusal.{Refusal}
 use Rattle.survey.specs.declared.answers.Admission.{Admission}
-use Rattle.survey.specs.Refusals.{Verdict, refused, Fault, whole, among, Clear, Lowest, refusal, Answers, AllClear}
+use Rattle.survey.specs.Refusals.{refused, Fault, whole, among, Clear, Lowest, refusal, Answers, AllClear}
 use Rattle.survey.specs.Answers.{admission_verdict}
-use Rattle.survey.proofs.Verdicts.{given, past, fine_clear, early}
+use Rattle.survey.proofs.Verdicts.{given, fine_clear, early}
 use Rattle.refusals.specs.declared.found.Found.{Found}
 use Rattle.refusals.specs.declared.found.Found.TheVariants.{At, Missing}
 use Rattle.refusals.specs.Refused.{refusal_whole}

@@ -2,7 +2,7 @@
 use mathlib.Core.Path.{◌≡◌, refl, ap}
 use mathlib.Core.Bool.{Bool, true, false}
 use Prim.Native.Nat.{ℕ}
-use Rattle.survey.specs.Refusals.{Fault, Lowest, Clear}
+use Rattle.survey.specs.Refusals.{Fault}
 use Rattle.survey.proofs.Verdicts.{lowest_one}
 use Rattle.refusals.specs.declared.found.Found.{Found}
 use Rattle.refusals.specs.declared.found.Found.TheVariants.{At, Missing}

@@ -1,6 +1,6 @@
 -- The set that drains: the least one that holds every group with a balance below 0 and that a group with a link to pay it by joins.
 -- What is left outside it is the heaviest set (flow), and the largest settled set (checker): one notion serves both.
-use Prim.Native.Nat.{ℕ, ◌+◌, ◌-◌, ◌≤◌, ◌<◌}
+use Prim.Native.Nat.{ℕ, ◌+◌, ◌≤◌, ◌<◌}
 use native.Mathlib.Omega.{arith}
 use mathlib.Core.Path.{◌≡◌}
 use mathlib.Core.Bool.{Bool, true, false, not}

@@ -1,5 +1,5 @@
 -- What a set says from n on counts for nothing: whatever the definitions say of a set holds of each set with the same groups.
-use Prim.Native.Nat.{ℕ, zero}
+use Prim.Native.Nat.{ℕ}
 use mathlib.Core.Path.{◌≡◌, refl, sym, ◌∙◌}
 use mathlib.Core.Bool.{Bool, true, false}
 use native.Mathlib.Omega.{arith}

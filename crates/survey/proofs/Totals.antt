@@ -3,9 +3,9 @@ use Prim.Native.Nat.{ℕ, ◌+◌, ◌*◌, ◌≤◌, ◌<◌, zero-le}
 use native.Mathlib.Nat.{le_refl, zero-mul}
 use native.Mathlib.Omega.{arith}
 use mathlib.Core.Path.{◌≡◌, refl, sym, ◌∙◌}
-use mathlib.Core.Bool.{Bool, true, false, ◌&&◌, ◌||◌, not}
+use mathlib.Core.Bool.{Bool, true, false, ◌&&◌, ◌||◌}
 use Rattle.survey.specs.Survey.{Survey}
-use Rattle.survey.specs.Sets.{Set, In, Contains, Same, total, sum, only, union, meet, outside}
+use Rattle.survey.specs.Sets.{Set, In, Contains, total, only, union, meet}
 use Rattle.survey.proofs.SumOrder.{sum_le}
 use Rattle.survey.proofs.Sums.{sum_cong, sum_add, sum_mul, sum_zero, term_le}
 

@@ -1,5 +1,5 @@
 -- Specification 11, "Faults": the table of 11.1, row by row with the number and the sort of place, and which rows each part looks for.
-use Rattle.std.specs.Prelude.{ℕ, ◌+◌, ◌-◌, ◌%◌, ◌<◌, ◌≤◌, ◌≡◌, ◌⊎◌, List, [], ◌∷◌, ◌++◌, length, get_or}
+use Rattle.std.specs.Prelude.{ℕ, ◌-◌, ◌%◌, ◌<◌, ◌≤◌, ◌≡◌, ◌⊎◌, List, [], ◌∷◌, ◌++◌, length, get_or}
 use Rattle.survey.specs.Limits.{group_limit, link_limit, count_limit, amount_limit, block_bytes}
 use Rattle.survey.specs.Survey.{Survey, Ascends, Cycle}
 use Rattle.survey.specs.Sets.{Set, In, Out, D, dead_of}

@@ -1,4 +1,3 @@
-use Prim.Native.Nat.{◌-◌}
 use Rattle.copies.proofs.CopyLaws.{copied, filled_none, filled_more}
 use Rattle.words.proofs.WordLaws.{bytes_of_lem}
 use mathlib.Core.Path.{◌≡◌}

@@ -6,6 +6,6 @@ use Rattle.counts.proofs.weight_of.Goals as goal
 
 pub returns : goal.returns
 returns c = record {
-      plus = c.cross-plus.ensures ∙ mul_comm c.args.l.0 _;
-      minus = c.cross-minus.ensures ∙ ap (λ z. z * c.args.d.0) c.cost.ensures;
-    }
+  plus = c.cross-plus.ensures ∙ mul_comm c.args.l.0 _;
+  minus = c.cross-minus.ensures ∙ ap (λ z. z * c.args.d.0) c.cost.ensures;
+}

@@ -1,5 +1,3 @@
-use Prim.Native.Nat.{◌-◌}
-use mathlib.Core.Logic.{⊎_elim}
 use mathlib.Core.Path.{◌≡◌, sym, ◌∙◌}
 use native.Mathlib.Omega.{arith}
 use Rattle.weights.proofs.MarkedLaws.{sum_none}
@@ -21,13 +19,13 @@ overflow_add-g c = omega (arith, c.requires)
 
 pub loop-g-preserved : goal.loop-g-preserved
 loop-g-preserved c = (
-    omega arith,
-    elim c.if-marks-g-eq1.branch [ then-marks-g-eq1 w ↦ omega arith | else-marks-g-eq1 w ↦ omega arith ],
-    elim c.if-marks-g-eq1.branch [
-        then-marks-g-eq1 w ↦ w.k-is ∙ count_marked c.args.marks.now c.loop-g.g c.loop-g.invariant.2 w.if-marks-g-eq1.true
-        | else-marks-g-eq1 w ↦ w.k-is ∙ count_unmarked c.args.marks.now c.loop-g.g c.loop-g.invariant.2 w.if-marks-g-eq1.false
-    ],
-  )
+  omega arith,
+  elim c.if-marks-g-eq1.branch [ then-marks-g-eq1 w ↦ omega arith | else-marks-g-eq1 w ↦ omega arith ],
+  elim c.if-marks-g-eq1.branch [
+    | then-marks-g-eq1 w ↦ w.k-is ∙ count_marked c.args.marks.now c.loop-g.g c.loop-g.invariant.2 w.if-marks-g-eq1.true
+    | else-marks-g-eq1 w ↦ w.k-is ∙ count_unmarked c.args.marks.now c.loop-g.g c.loop-g.invariant.2 w.if-marks-g-eq1.false
+  ],
+)
 
 pub returns : goal.returns
 returns c = let done : c.loop-g.g ≡ c.args.n = omega arith in rw done at c.loop-g.invariant.2

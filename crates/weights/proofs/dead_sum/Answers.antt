@@ -1,9 +1,7 @@
 use Rattle.weights.proofs.MarkedLaws.{deads, sum_none, dead_fits, dead_whole}
 use Rattle.survey.proofs.Sums.{sum_more}
-use Rattle.survey.specs.Sets as sets
 use native.Mathlib.Omega.{arith}
 use mathlib.Core.Path.{◌≡◌, ◌∙◌, sym}
-use Prim.Native.Nat.{◌-◌}
 use Rattle.weights.proofs.dead_sum.Goals as goal
 
 pub loop-g-init : goal.loop-g-init

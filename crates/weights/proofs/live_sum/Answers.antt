@@ -1,9 +1,7 @@
 use Rattle.weights.proofs.MarkedLaws.{costs, sum_none, cost_fits, cost_whole}
 use Rattle.survey.proofs.Sums.{sum_more}
-use Rattle.survey.specs.Sets as sets
 use native.Mathlib.Omega.{arith}
 use mathlib.Core.Path.{◌≡◌, ◌∙◌, sym}
-use Prim.Native.Nat.{◌-◌}
 use Rattle.weights.proofs.live_sum.Goals as goal
 
 pub loop-g-init : goal.loop-g-init

@@ -1,7 +1,6 @@
 use Rattle.weights.proofs.PutLaws.{put_none, put_more, counts_read, plus_read, minus_read}
 use native.Mathlib.Omega.{arith}
 use mathlib.Core.Path.{◌≡◌}
-use Prim.Native.Nat.{◌-◌}
 use Rattle.weights.proofs.put_weights.Goals as goal
 
 pub loop-g-init : goal.loop-g-init

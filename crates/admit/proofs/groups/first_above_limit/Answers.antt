@@ -1,5 +1,4 @@
 use Rattle.refusals.proofs.Looking.{before_first, before_next, found_here, found_none}
-use Prim.Native.Nat.{◌-◌}
 use Rattle.admit.proofs.groups.first_above_limit.Goals as goal
 
 pub loop-g-init : goal.loop-g-init

@@ -3,7 +3,6 @@ use Rattle.survey.specs.Sets.{dead_of}
 use borrow.Author.Count.{below_more}
 use mathlib.Core.Path.{◌≡◌}
 use native.Mathlib.Omega.{arith}
-use Prim.Native.Nat.{◌-◌}
 use Rattle.admit.proofs.groups.none_dead.Goals as goal
 
 pub loop-g-init : goal.loop-g-init

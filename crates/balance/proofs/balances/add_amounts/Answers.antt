@@ -1,7 +1,6 @@
 use Rattle.balance.proofs.Adding.{added_none, add_asks, added_more}
 use native.Mathlib.Omega.{arith}
 use mathlib.Core.Path.{◌≡◌}
-use Prim.Native.Nat.{◌-◌}
 use Rattle.balance.proofs.balances.add_amounts.Goals as goal
 
 pub loop-k-init : goal.loop-k-init

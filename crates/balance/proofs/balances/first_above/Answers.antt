@@ -1,6 +1,5 @@
 use Rattle.refusals.proofs.Looking.{before_first, before_next, found_here, found_none}
 use native.Mathlib.Omega.{arith}
-use Prim.Native.Nat.{◌-◌}
 use Rattle.balance.proofs.balances.first_above.Goals as goal
 
 pub loop-g-init : goal.loop-g-init

@@ -1,4 +1,3 @@
-use Prim.Native.Nat.{◌-◌}
 use Rattle.refusals.proofs.Looking.{before_first, before_next, found_here, found_none, told, told_not}
 use native.Mathlib.Omega.{arith}
 use Rattle.blocks.proofs.searches.first_bad_kind.Goals as goal

@@ -1,4 +1,4 @@
-use Prim.Native.Nat.{ℕ, ◌-◌}
+use Prim.Native.Nat.{ℕ}
 use Rattle.refusals.proofs.Looking.{before_first, before_next, found_here, found_none, told, told_not}
 use Rattle.survey.specs.SurveyFile.{kind_of}
 use Rattle.blocks.proofs.LaidOut.{clear_kind}

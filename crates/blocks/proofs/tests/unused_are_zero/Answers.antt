@@ -1,8 +1,6 @@
 use borrow.Author.Count.{below_more}
-use Rattle.survey.specs.SurveyFile.{block_word}
 use native.Mathlib.Omega.{arith}
 use mathlib.Core.Path.{sym, ◌∙◌}
-use Prim.Native.Nat.{◌-◌}
 use Rattle.blocks.proofs.tests.unused_are_zero.Goals as goal
 
 pub block_word-kind-requires : goal.block_word-kind-requires

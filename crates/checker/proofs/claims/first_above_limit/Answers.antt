@@ -1,6 +1,5 @@
 use Rattle.refusals.proofs.Looking.{before_first, before_next, found_here, found_none}
 use native.Mathlib.Omega.{arith}
-use Prim.Native.Nat.{◌-◌}
 use Rattle.checker.proofs.claims.first_above_limit.Goals as goal
 
 pub loop-k-init : goal.loop-k-init

@@ -1,7 +1,6 @@
 use Rattle.checker.proofs.Looks.{mark_bad, mark_good}
 use Rattle.refusals.proofs.Looking.{before_first, before_next, found_here, found_none}
 use native.Mathlib.Omega.{arith}
-use Prim.Native.Nat.{◌-◌}
 use Rattle.checker.proofs.claims.first_bad_mark.Goals as goal
 
 pub loop-g-init : goal.loop-g-init

@@ -1,7 +1,6 @@
 use Rattle.weights.proofs.PutLaws.{put_none, put_more}
 use native.Mathlib.Omega.{arith}
 use mathlib.Core.Path.{◌≡◌, refl}
-use Prim.Native.Nat.{◌-◌}
 use Rattle.chooser.proofs.copies.copy.Goals as goal
 
 pub loop-i-init : goal.loop-i-init

@@ -1,7 +1,6 @@
 use Rattle.chooser.proofs.RoundLaws.{above_none, above_next, above_more}
 use native.Mathlib.Omega.{arith}
 use mathlib.Core.Path.{◌≡◌}
-use Prim.Native.Nat.{◌-◌}
 use Rattle.chooser.proofs.rounds.any_above.Goals as goal
 
 pub loop-g-init : goal.loop-g-init

@@ -4,7 +4,7 @@ use Rattle.cycles.specs.Peeling.{Stacked}
 use Rattle.cycles.specs.Halves.{low_of}
 use mathlib.Core.Path.{refl, subst}
 use native.Mathlib.Omega.{arith}
-use Prim.Native.Nat.{ℕ, ◌-◌}
+use Prim.Native.Nat.{ℕ}
 use borrow.Author.Rules.{rules}
 use Rattle.cycles.proofs.peeling.stack.Goals as goal
 

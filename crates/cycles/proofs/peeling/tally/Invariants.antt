@@ -1,4 +1,4 @@
-use Prim.Native.Nat.{◌-◌, ◌≤◌}
+use Prim.Native.Nat.{◌≤◌}
 use Rattle.cycles.specs.Peeling.{Tallied}
 use Rattle.cycles.specs.Lists.{links_in}
 use lib.ListN.{length}

@@ -2,7 +2,6 @@ use Rattle.cycles.proofs.PeelEnd.{walk_start, walk_counts, walk_top, walk_next, 
 use Rattle.cycles.proofs.ListLaws.{ends_inside}
 use mathlib.Core.Path.{sym, ◌∙◌}
 use native.Mathlib.Omega.{arith}
-use Prim.Native.Nat.{◌-◌}
 use borrow.Author.Rules.{rules}
 use Rattle.cycles.proofs.peeling.walk.Goals as goal
 

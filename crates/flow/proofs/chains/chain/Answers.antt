@@ -1,7 +1,6 @@
 use mathlib.Core.Path.{refl}
 use native.Mathlib.Omega.{arith}
 use lib.ListN.{length-set}
-use Rattle.flow.specs.Copies.{end_in}
 use Rattle.flow.proofs.ChainLaws.{chain_begins, chain_more, chain_done, chain_here}
 use Rattle.flow.proofs.chains.chain.Goals as goal
 

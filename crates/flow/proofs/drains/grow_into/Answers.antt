@@ -1,4 +1,3 @@
-use Prim.Native.Nat.{◌-◌}
 use native.Mathlib.Omega.{arith}
 use Rattle.flow.proofs.JoinLaws.{placed_most}
 use Rattle.flow.proofs.DrainLaws.{growth_begins, see_first, see_second, growth-on, growth-done}

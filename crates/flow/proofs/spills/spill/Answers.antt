@@ -1,4 +1,3 @@
-use Prim.Native.Nat.{◌-◌}
 use native.Mathlib.Omega.{arith}
 use Rattle.flow.proofs.JoinLaws.{above_0}
 use Rattle.flow.proofs.FlowLaws.{spill_small, spill_begins, spill_offerable, spill-on, spill_spent, spill_done, spilled-ran}

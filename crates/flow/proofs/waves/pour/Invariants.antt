@@ -1,5 +1,4 @@
 -- `flow::waves::pour` meets its contract. The invariant: the groups from place i of the order on have had their turn. Assumes nothing.
-use Prim.Native.Nat.{◌-◌}
 use Rattle.flow.proofs.WaveLaws.{Pouring}
 use Rattle.flow.proofs.waves.pour.Given as goal
 

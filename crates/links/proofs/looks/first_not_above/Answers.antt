@@ -1,5 +1,4 @@
 use Rattle.refusals.proofs.Looking.{before_first, before_next, found_here, found_none}
-use Prim.Native.Nat.{◌-◌}
 use Rattle.links.proofs.looks.first_not_above.Goals as goal
 
 pub loop-k-init : goal.loop-k-init

@@ -1,4 +1,3 @@
-use Prim.Native.Nat.{◌-◌}
 use lib.Seq.{take-length}
 use lib.ListN.{length, take}
 use native.Mathlib.Omega.{arith}

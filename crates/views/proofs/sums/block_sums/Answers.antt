@@ -1,6 +1,6 @@
 use Rattle.views.proofs.SumLaws.{sums_none, sums_more}
 use Rattle.survey.specs.SurveyFile.{block_word, sums, sums_after}
-use Rattle.std.proofs.Common.{◌-◌, sym, ap, ◌∙◌, ap₂, arith}
+use Rattle.std.proofs.Common.{sym, ap, ◌∙◌, ap₂, arith}
 use Rattle.views.proofs.sums.block_sums.Goals as goal
 
 pub loop-w-init : goal.loop-w-init
