@@ -11,7 +11,7 @@ import os
 import re
 import sys
 
-DECLARED = re.compile(r"^ *(?:(?:abbrev|unfoldable|pub|instance) )*([a-z][\w'₀-₉\-]*)(?: +[^:\n]*?)? *:(?!:) ", re.M)
+DECLARED = re.compile(r"^ *(?:(?:abbrev|unfoldable|pub|instance) )*([a-z][\w'₀-₉\-]*)(?: +[^:\n]*?)? *:(?!:)(?: |$)", re.M)
 USE = re.compile(r"^(?:pub )?(?:ghost )?use ([\w.'+\-·]+?)\.\{([^}]*)\}", re.M | re.S)
 TOKEN = re.compile(r"[A-Za-z_#][\w'₀-₉]*(?:-[\w'₀-₉]+)*")
 CRATES = sorted(os.listdir("crates"))

@@ -21,7 +21,7 @@ use Rattle.calls.specs.Calls.{AdmittedCall}
 use Rattle.weights.specs.Marked.{groups_of, MarkedGroups}
 use Rattle.weights.specs.Put.{Puttable, WeightsPut}
 use Rattle.weights.proofs.MarkedLaws.{sound_groups}
-use Rattle.weights.proofs.PutLaws.{plus_put, minus_put, sound-puttable}
+use Rattle.weights.proofs.PutLaws.{plus_put, minus_put, sound_puttable}
 use Rattle.balance.specs.Rule.{RuleAsks}
 use Rattle.balance.specs.Balances.{from_of, to_of, amounts_at, Takes, AmountsAsk, AmountsAdded, BalanceLists, BalancesPut}
 
@@ -117,7 +117,7 @@ module _ {n e d : ℕ} {groups links marks amounts : List ℕ} (p : RuleAsks n e
 
   module _ {l : ℕ} (is : l ≡ L (groups_of n groups) (marked_set marks)) {credits₀ debits₀ : List ℕ} (room : BalanceLists n credits₀ debits₀) where
     pub puttable : Puttable n groups d l credits₀ debits₀
-    puttable = sound-puttable n e groups links p.call.sound p.call.groups_long (marked_set marks) p.dead is room.credits_long room.debits_long
+    puttable = sound_puttable n e groups links p.call.sound p.call.groups_long (marked_set marks) p.dead is room.credits_long room.debits_long
 
     module _ {credits debits : List ℕ} (w : WeightsPut n groups d l credits₀ debits₀ credits debits) where
       put : WeightsPut n groups (D (groups_of n groups) (marked_set marks)) (L (groups_of n groups) (marked_set marks)) credits₀ debits₀ credits debits

@@ -40,9 +40,9 @@ outside_told t marks g d = second_out (marked_set marks g) (mark_out t g d)
 -- ---- a row in other words
 
 -- The same places are at fault, so the same place is the lowest.
-pub finds-same :
+pub finds_same :
     (number places : ℕ) {P Q : ℕ → Type 0} → ((k : ℕ) → k < places → P k → Q k) → ((k : ℕ) → k < places → Q k → P k) → (r : Found)
     → Finds (among number places P) r → Finds (among number places Q) r
-finds-same number places f g (At k) x =
+finds_same number places f g (At k) x =
     record { below = x.below; fault = f k x.below x.fault; first = λ j l q. x.first j l (g j (omega (arith, x.below)) q) }
-finds-same number places f g Missing x = record { none = λ k l q. x.none k l (g k l q) }
+finds_same number places f g Missing x = record { none = λ k l q. x.none k l (g k l q) }

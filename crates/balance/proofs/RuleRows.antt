@@ -17,11 +17,11 @@ use Rattle.refusals.specs.declared.found.Found.{Found}
 use Rattle.refusals.specs.Searches.{Finds}
 use Rattle.calls.specs.Calls.{AdmittedCall}
 use Rattle.flow.proofs.LinkLaws.{survey_given, inside_ends}
-use Rattle.flow.proofs.DrainLaws.{least-drains}
+use Rattle.flow.proofs.DrainLaws.{least_drains}
 use Rattle.weights.specs.Put.{PutFirst}
 use Rattle.balance.specs.Balances.{above_row, BalancesPut, BalanceLists, LacksAsk}
 use Rattle.balance.specs.Largest.{LargestAsks, LeftOutFound}
-use Rattle.balance.proofs.Looks.{finds-same}
+use Rattle.balance.proofs.Looks.{finds_same}
 
 module _ (n e : ℕ) (groups links marks amounts : List ℕ) where
   -- what the two lists hold are the balances
@@ -29,7 +29,7 @@ module _ (n e : ℕ) (groups links marks amounts : List ℕ) where
     pub above_row_lem : (r : Found) → Finds (above_row n credits debits) r → Finds (balance_above (survey_of n e groups links) (marked_set marks) (amounts_of amounts)) r
     unfolding survey_at
     above_row_lem r x =
-        finds-same 17 n (λ g l y. omega (arith, b.credit_at g l, b.debit_at g l)) (λ g l y. omega (arith, b.credit_at g l, b.debit_at g l)) r x
+        finds_same 17 n (λ g l y. omega (arith, b.credit_at g l, b.debit_at g l)) (λ g l y. omega (arith, b.credit_at g l, b.debit_at g l)) r x
 
     module _ (clear : Clear (above_row n credits debits)) where
       level_at : (g : ℕ) → g < n → get_or credits g 0 ≤ get_or debits g 0
@@ -54,13 +54,13 @@ module _ (n e : ℕ) (groups links marks amounts : List ℕ) where
         pub left_out_row : (r : Found) → LeftOutFound n e links marks amounts lacks r → Finds (not_largest (survey_of n e groups links) (marked_set marks) (amounts_of amounts)) r
         unfolding survey_at
         left_out_row r f =
-            finds-same 18 n
+            finds_same 18 n
             (λ g l y. record { largest_set = outside (marked_set f.drain); largest = whole; inside = outside_in y.0; outside = y.1 })
             (λ g l y. (in_out ((largest_settled_one whole y.largest).at g l ∙ y.inside), y.outside))
             r f.finds
           where
             whole : LargestSettled (survey_of n e groups links) (weights (survey_of n e groups links) (marked_set marks)) (amounts_of amounts) (outside (marked_set f.drain))
-            whole = largest_is f.drain (least-drains lack_at (f.least (survey_of n e groups links) (survey_given n e groups links)))
+            whole = largest_is f.drain (least_drains lack_at (f.least (survey_of n e groups links) (survey_given n e groups links)))
 
 -- ---- what the steps ask, of an admitted call
 

@@ -195,11 +195,11 @@ module _ (change : ℕ → ℕ → ℕ) (m : List ℕ) (g h : ℕ) where
   changed_same inside rows = ap (λ (x : ℕ). digit x (h % 64)) (get_or-set_same m place new 0 (omega arith))
 
   -- another word, or another digit of that word
-  changed-other :
+  changed_other :
       ((w i j : ℕ) → (j ≡ i → ⊥) → digit (change w i) j ≡ digit w j)
       → (g' h' : ℕ) → h < 128 → h' < 128 → ((g' ≡ g) × (h' ≡ h) → ⊥) → bit (set m place new) g' h' ≡ bit m g' h'
   unfolding bit
-  changed-other other g' h' inside inside' ne = go (ℕ_discrete (2 * g' + h' / 64) place) (dec_lt place (length m))
+  changed_other other g' h' inside inside' ne = go (ℕ_discrete (2 * g' + h' / 64) place) (dec_lt place (length m))
     where
       go : Dec (2 * g' + h' / 64 ≡ place) → Dec (place < length m)
           → digit (get_or (set m place new) (2 * g' + h' / 64) 0) (h' % 64) ≡ digit (get_or m (2 * g' + h' / 64) 0) (h' % 64)
@@ -226,10 +226,10 @@ module _ (m : List ℕ) (g h : ℕ) where
   cut_same inside rows = changed_same without m g h inside rows ∙ without_same (get_or m (2 * g + h / 64) 0) (h % 64)
 
   pub put_other : (g' h' : ℕ) → h < 128 → h' < 128 → ((g' ≡ g) × (h' ≡ h) → ⊥) → bit (put_bit m g h) g' h' ≡ bit m g' h'
-  put_other = changed-other with m g h with_other
+  put_other = changed_other with m g h with_other
 
   pub cut_other : (g' h' : ℕ) → h < 128 → h' < 128 → ((g' ≡ g) × (h' ≡ h) → ⊥) → bit (cut_bit m g h) g' h' ≡ bit m g' h'
-  cut_other = changed-other without m g h without_other
+  cut_other = changed_other without m g h without_other
 
 -- ---- each contract leaves one answer
 

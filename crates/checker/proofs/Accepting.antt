@@ -46,20 +46,20 @@ on_past (f ∷ fs) gs c a = on_past fs gs c.1 (look_on f (fs ++ gs) c.0 a)
 -- ---- the answer
 
 module _ (n e : ℕ) (groups links marks amounts : List ℕ) where
-  claim-clear :
+  claim_clear :
       CheckerSays n e groups links marks amounts Judgement.Accepted
       → AllClear (chooser_faults n e groups links marks amounts) × AllClear (claim_faults (survey_of n e groups links) marks (amounts_of amounts))
-  claim-clear a =
+  claim_clear a =
       clear_parts (chooser_faults n e groups links marks amounts) (claim_faults (survey_of n e groups links) marks (amounts_of amounts))
       (fine_clear (checker_faults n e groups links marks amounts) a.verdict)
 
   call_of : CheckerSays n e groups links marks amounts Judgement.Accepted → AdmittedCall n e groups links marks amounts
-  call_of a = admitted_call groups links marks amounts n e (clear_fine (chooser_faults n e groups links marks amounts) (claim-clear a).0)
+  call_of a = admitted_call groups links marks amounts n e (clear_fine (chooser_faults n e groups links marks amounts) (claim_clear a).0)
 
   rule_of : CheckerSays n e groups links marks amounts Judgement.Accepted → Accepted (survey_of n e groups links) (marked_set marks) (amounts_of amounts)
   unfolding AllClear
   rule_of a =
-      let c = (claim-clear a).1 in
+      let c = (claim_clear a).1 in
       clear_accepted (survey_of n e groups links) (marked_set marks) (amounts_of amounts) (call_of a).sound.inside
       (record { closed = c.1.1.0; dead = c.1.1.1.0; balances = c.1.1.1.1.0; largest = c.1.1.1.1.1.0 })
 
@@ -71,8 +71,8 @@ module _ (n e : ℕ) (groups links marks amounts : List ℕ) where
   pub accepted_acceptable : CheckerSays n e groups links marks amounts Judgement.Accepted → Acceptable n e groups links marks amounts
   unfolding AllClear survey_at
   accepted_acceptable a =
-      let c = (claim-clear a).1 in
-      let call = call_clear groups links marks amounts n e (clear_fine (chooser_faults n e groups links marks amounts) (claim-clear a).0) in
+      let c = (claim_clear a).1 in
+      let call = call_clear groups links marks amounts n e (clear_fine (chooser_faults n e groups links marks amounts) (claim_clear a).0) in
       record {
         long = call.0;
         admitted = call.1;
@@ -111,19 +111,19 @@ module _ (n e : ℕ) (groups links marks amounts : List ℕ) where
       claim : ClaimClear (survey_of n e groups links) (marked_set marks) (amounts_of amounts)
       claim = accepted_clear (survey_of n e groups links) (marked_set marks) (amounts_of amounts) x.rule
 
-  pub accepted-iff :
+  pub accepted_iff :
       (CheckerSays n e groups links marks amounts Judgement.Accepted → Acceptable n e groups links marks amounts)
       × (Acceptable n e groups links marks amounts → CheckerSays n e groups links marks amounts Judgement.Accepted)
-  accepted-iff = (accepted_acceptable, acceptable_accepted)
+  accepted_iff = (accepted_acceptable, acceptable_accepted)
 
   -- ---- refusal 18
 
   -- A claim that passes every row up to 17 and that the rule does not accept is refused 18, and the group is there to be named.
-  pub refusal-18-has-its-place :
+  pub refusal_18_has_its_place :
       (r : Judgement) → CheckerSays n e groups links marks amounts r → AllClear (before18 n e groups links marks amounts)
       → (Accepted (survey_of n e groups links) (marked_set marks) (amounts_of amounts) → ⊥) → Refused18 n e groups links marks amounts r
   unfolding AllClear survey_at
-  refusal-18-has-its-place r a c not =
+  refusal_18_has_its_place r a c not =
       at (look (not_largest s S x) [] (on_past (before18 n e groups links marks amounts) (not_largest s S x ∷ []) c a.verdict))
     where
       s : Survey

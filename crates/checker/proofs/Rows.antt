@@ -14,7 +14,7 @@ use Rattle.calls.specs.Calls.{AdmittedCall}
 use Rattle.weights.specs.Marked.{groups_of}
 use Rattle.weights.proofs.MarkedLaws.{dead_alone}
 use Rattle.balance.specs.Rule.{RuleAsks}
-use Rattle.balance.proofs.Looks.{finds-same}
+use Rattle.balance.proofs.Looks.{finds_same}
 use Rattle.balance.proofs.Balancing.{link_from, link_to, from_below, to_below}
 use Rattle.checker.specs.Claims.{mark_row, amount_row, closed_row, EndsMarked}
 
@@ -32,7 +32,7 @@ module _ (n e : ℕ) (groups links marks amounts : List ℕ) where
   pub closed_row_lem : (r : Found) → Finds (closed_row e links marks) r → Finds (not_closed (survey_of n e groups links) (marked_set marks)) r
   unfolding survey_at
   closed_row_lem r x =
-      finds-same 15 e
+      finds_same 15 e
       (λ k l y. (rw (link_from n e groups links k l) at y.0, rw (link_to n e groups links k l) at y.1))
       (λ k l y. (rw (link_from n e groups links k l) y.0, rw (link_to n e groups links k l) y.1))
       r x

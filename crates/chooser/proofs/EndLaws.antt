@@ -18,7 +18,7 @@ use Rattle.survey.proofs.SameClaims.{SameAmounts, accepted_same}
 use Rattle.survey.proofs.BalanceRule.{accepted_pick}
 use Rattle.survey.proofs.Rounds.{size}
 use Rattle.survey.proofs.LastRound.{Reached, reached_none, reached_more, reached_last, round_fewer}
-use Rattle.survey.proofs.RoundSets.{round-accepted}
+use Rattle.survey.proofs.RoundSets.{round_accepted}
 use Rattle.survey.proofs.RoundCount.{size_few}
 use Rattle.calls.specs.Calls.{AdmittedCall}
 use Rattle.weights.specs.Put.{PutFirst}
@@ -82,7 +82,7 @@ module _ {n e : ℕ} {groups links current₀ amounts₀ : List ℕ} (x : AllAsk
             worked = record { small = o.worked.small; bits = o.worked.bits; kept = kept_on w.kept o.worked.kept };
             counted = reached_last w.reached o.round.heaviest (o.round.last z);
             accepted =
-                round-accepted x.listed.sound.inside (marked_set current') x.listed.sound.some_dead w.reached.current o.round.drains
+                round_accepted x.listed.sound.inside (marked_set current') x.listed.sound.some_dead w.reached.current o.round.drains
                 o.round.dry (o.round.last z);
           }
 

@@ -16,10 +16,10 @@ use Rattle.survey.specs.SurveyFile.{n_in, e_in, first_group_block, first_link_bl
 use Rattle.survey.specs.Promises.{Filled}
 
 -- a word of a filled entry: its first, j = 0, or its second, j = 4
-filled-word :
+filled_word :
     {before after f : List ℕ} {count : ℕ} {w : Stand} → Filled before after count f w → (k j : ℕ) → k < count → j + 4 ≤ entry_bytes
     → word after (stands_at lent k + j) ≡ word f (stands_at w k + j)
-filled-word {before} {after} {f} {count} {w} p k j h l = omega (arith, simp add-zero at (byte 0 (omega arith)), byte 1 (omega arith), byte 2 (omega arith), byte 3 (omega arith))
+filled_word {before} {after} {f} {count} {w} p k j h l = omega (arith, simp add-zero at (byte 0 (omega arith)), byte 1 (omega arith), byte 2 (omega arith), byte 3 (omega arith))
   where
     byte : (m : ℕ) → m < 4 → get_or after (stands_at lent k + j + m) 0 ≡ get_or f (stands_at w k + j + m) 0
     byte m s =
@@ -37,16 +37,16 @@ up_to_same {A} n z x y h = λ i k. at k (ltb k n) refl i
 
 module _ {before after f : List ℕ} {count : ℕ} {w : Stand} (p : Filled before after count f w) (k : ℕ) (h : k < count) where
   filled_group : group_at after lent k ≡ group_at f w k
-  filled_group = λ i. record { dead = (simp add-zero at (filled-word p k 0 h (omega arith))) i; live = filled-word p k 4 h (omega arith) i }
+  filled_group = λ i. record { dead = (simp add-zero at (filled_word p k 0 h (omega arith))) i; live = filled_word p k 4 h (omega arith) i }
 
   filled_link : link_at after lent k ≡ link_at f w k
-  filled_link = λ i. record { from = (simp add-zero at (filled-word p k 0 h (omega arith))) i; to = filled-word p k 4 h (omega arith) i }
+  filled_link = λ i. record { from = (simp add-zero at (filled_word p k 0 h (omega arith))) i; to = filled_word p k 4 h (omega arith) i }
 
-pub filled-survey :
+pub filled_survey :
     {f g g' l l' : List ℕ} → Filled g g' (n_in f) f (in_blocks first_group_block) → Filled l l' (e_in f) f (in_blocks (first_link_block (n_in f)))
     → survey_of (n_in f) (e_in f) g' l' ≡ survey_in f
 unfolding survey_at
-filled-survey {f} {g} {g'} {l} {l'} p q =
+filled_survey {f} {g} {g'} {l} {l'} p q =
     λ i. record {
       n = n_in f;
       e = e_in f;

@@ -28,12 +28,12 @@ use Rattle.boundary.specs.Packed.{SmallRefusal}
 use Rattle.boundary.proofs.NumberLaws.{refusal_no_success}
 use Rattle.calls.specs.Calls.{LongEnough}
 use Rattle.calls.proofs.CallLaws.{long_enough, call_clear}
-use Rattle.copies.proofs.FilledSurvey.{filled-survey}
+use Rattle.copies.proofs.FilledSurvey.{filled_survey}
 use Rattle.checker.specs.Accepting.{Acceptable}
 use Rattle.checker.proofs.Accepting as accepting
 use Rattle.corkgully.specs.Numbers.{ReadNumber, ChooseNumber, CheckNumber}
 use Rattle.corkgully.specs.Outcomes.{Refuses, Outcome, refuses, gives, Succeeds, GivesSurvey, GivesPick}
-use Rattle.corkgully.proofs.Fit.{reading_small, choice-small, judgement_small}
+use Rattle.corkgully.proofs.Fit.{reading_small, choice_small, judgement_small}
 
 -- ---- 1
 
@@ -72,43 +72,43 @@ first_fault (f ∷ fs) {r} {x} a e = at (look f fs a) (λ y. first_fault fs y e)
         }
 
 -- the pick is the only one
-pick-given :
+pick_given :
     {s : Survey} {x rounds : ℕ} {marks amounts marks' amounts' : List ℕ} → x ≡ 65_536 * rounds → Chooses s rounds marks amounts marks' amounts'
     → GivesPick s x marks'
-pick-given {rounds = rounds} e c = record { rounds = rounds; is = e; counted = c.counted; pick = c.pick; only = λ S p. pick_one p c.pick }
+pick_given {rounds = rounds} e c = record { rounds = rounds; is = e; counted = c.counted; pick = c.pick; only = λ S p. pick_one p c.pick }
 
 survey_given :
     {f groups links groups' links' : List ℕ} {n e x : ℕ} → x ≡ reading_number (Reading.Survey n e)
     → ReadLists f groups links (Reading.Survey n e) groups' links' → GivesSurvey f x groups' links'
-survey_given {f} {n = n} {e = e} {x = x} q l = record { is = number q l.0 l.1; survey = filled-survey l.2 l.3 }
+survey_given {f} {n = n} {e = e} {x = x} q l = record { is = number q l.0 l.1; survey = filled_survey l.2 l.3 }
   where
     number : x ≡ 65_536 * n + 4_294_967_296 * e → n ≡ n_in f → e ≡ e_in f → x ≡ 65_536 * n_in f + 4_294_967_296 * e_in f
     number a b c = omega arith
 
-pub reader-outcome :
+pub reader_outcome :
     {f groups links groups' links' : List ℕ} {x : ℕ} → ReadNumber f groups links x groups' links'
     → Outcome (reader_faults f groups links) x ((groups' ≡ groups) × (links' ≡ links)) (GivesSurvey f x groups' links')
-reader-outcome {f} {groups} {links} {groups'} {links'} {x} a = at a.reading a.is a.says
+reader_outcome {f} {groups} {links} {groups'} {links'} {x} a = at a.reading a.is a.says
   where
     at : (r : Reading) → x ≡ reading_number r → ReaderSays f groups links r groups' links'
         → Outcome (reader_faults f groups links) x ((groups' ≡ groups) × (links' ≡ links)) (GivesSurvey f x groups' links')
     at (Reading.Refused r) e s = refuses (first_fault (reader_faults f groups links) s.verdict e) s.lists
     at (Reading.Survey n k) e s = gives (fine_clear (reader_faults f groups links) s.verdict) (survey_given e s.lists)
 
-pub chooser-outcome :
+pub chooser_outcome :
     {n e : ℕ} {groups links marks amounts marks' amounts' : List ℕ} {x : ℕ} → ChooseNumber n e groups links marks amounts x marks' amounts'
     → Outcome (chooser_faults n e groups links marks amounts) x ((marks' ≡ marks) × (amounts' ≡ amounts)) (GivesPick (survey_of n e groups links) x marks')
-chooser-outcome {n} {e} {groups} {links} {marks} {amounts} {marks'} {amounts'} {x} a = at a.choice a.is a.says
+chooser_outcome {n} {e} {groups} {links} {marks} {amounts} {marks'} {amounts'} {x} a = at a.choice a.is a.says
   where
     at : (r : Choice) → x ≡ choice_number r → ChooserSays n e groups links marks amounts r marks' amounts'
         → Outcome (chooser_faults n e groups links marks amounts) x ((marks' ≡ marks) × (amounts' ≡ amounts)) (GivesPick (survey_of n e groups links) x marks')
     at (Choice.Refused r) q s = refuses (first_fault (chooser_faults n e groups links marks amounts) s.verdict q) s.lists
-    at (Choice.Chosen rounds) q s = gives (fine_clear (chooser_faults n e groups links marks amounts) s.verdict) (pick-given q s.lists)
+    at (Choice.Chosen rounds) q s = gives (fine_clear (chooser_faults n e groups links marks amounts) s.verdict) (pick_given q s.lists)
 
-pub checker-outcome :
+pub checker_outcome :
     {n e : ℕ} {groups links marks amounts : List ℕ} {x : ℕ} → CheckNumber n e groups links marks amounts x
     → Outcome (checker_faults n e groups links marks amounts) x (Unit {0}) (x ≡ 0)
-checker-outcome {n} {e} {groups} {links} {marks} {amounts} {x} a = at a.judgement a.is a.says
+checker_outcome {n} {e} {groups} {links} {marks} {amounts} {x} a = at a.judgement a.is a.says
   where
     at : (r : Judgement) → x ≡ judgement_number r → CheckerSays n e groups links marks amounts r
         → Outcome (checker_faults n e groups links marks amounts) x (Unit {0}) (x ≡ 0)
@@ -131,11 +131,11 @@ module _ {n e : ℕ} {groups links marks amounts marks' amounts' : List ℕ} {x 
 
       at : (r : Choice) → x ≡ choice_number r → ChooserSays n e groups links marks amounts r marks' amounts' → GivesPick (survey_of n e groups links) x marks'
       at (Choice.Refused r) q s = absurd (none_refused (chooser_faults n e groups links marks amounts) clear s.verdict refl)
-      at (Choice.Chosen rounds) q s = pick-given q s.lists
+      at (Choice.Chosen rounds) q s = pick_given q s.lists
 
   chosen : Succeeds x → (r : Choice) → x ≡ choice_number r → ChooserSays n e groups links marks amounts r marks' amounts'
       → (k : ℕ) × ChooserSays n e groups links marks amounts (Choice.Chosen k) marks' amounts'
-  chosen z (Choice.Refused r) q s = absurd (no_success r (choice-small (Choice.Refused r) s) q z)
+  chosen z (Choice.Refused r) q s = absurd (no_success r (choice_small (Choice.Refused r) s) q z)
   chosen z (Choice.Chosen k) q s = (k, s)
 
   pub picked_admitted : Succeeds x → Admitted (survey_of n e groups links)
@@ -172,11 +172,11 @@ module _ {f groups links groups' links' : List ℕ} {x : ℕ} (a : ReadNumber f 
 pub read_admitted : {f groups links groups' links' : List ℕ} {x : ℕ} → Bytes f → ReadNumber f groups links x groups' links' → Succeeds x → AdmittedFile f
 read_admitted small a z = read_admitted_by a small z
 
-pub file-picked :
+pub file_picked :
     {f groups links marks amounts groups' links' marks' amounts' : List ℕ} {x y : ℕ} → ReadNumber f groups links x groups' links'
     → ChooseNumber (n_in f) (e_in f) groups' links' marks amounts y marks' amounts' → LongEnough groups links marks amounts → AdmittedFile f
     → GivesSurvey f x groups' links' × GivesPick (survey_in f) y marks'
-file-picked {f} {groups} {links} {marks} {amounts} {groups'} {links'} {marks'} {x = x} {y = y} a b long admitted = (
+file_picked {f} {groups} {links} {marks} {amounts} {groups'} {links'} {marks'} {x = x} {y = y} a b long admitted = (
   read.0,
   subst (λ (s : Survey). GivesPick s y marks') read.0.survey
       (admitted_picked b still (subst (λ (s : Survey). Admitted s) (sym read.0.survey) (file_survey admitted))),

@@ -41,7 +41,7 @@ pub record Demand2 : Type 0 where
       {n e : ℕ} {groups links marks amounts marks' amounts' : List ℕ} {x : ℕ} → ChooseNumber n e groups links marks amounts x marks' amounts'
       → Succeeds x → Admitted (survey_of n e groups links)
   -- given as a file: the lists that the reader fills hold the file's survey, and the chooser on them gives its pick
-  pub file-picked :
+  pub file_picked :
       {f groups links marks amounts groups' links' marks' amounts' : List ℕ} {x y : ℕ} → ReadNumber f groups links x groups' links'
       → ChooseNumber (n_in f) (e_in f) groups' links' marks amounts y marks' amounts' → LongEnough groups links marks amounts → AdmittedFile f
       → GivesSurvey f x groups' links' × GivesPick (survey_in f) y marks'
@@ -52,7 +52,7 @@ demand_2 =
     record {
       admitted_picked = laws.admitted_picked;
       picked_admitted = laws.picked_admitted;
-      file-picked = laws.file-picked;
+      file_picked = laws.file-picked;
       read_admitted = laws.read_admitted;
     }
 

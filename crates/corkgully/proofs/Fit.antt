@@ -29,13 +29,13 @@ reading_small {f} {groups} {links} (Reading.Survey n e) b says =
     let fits = clear_range f (blocks_clear f (clear_fine (file_faults f) (fine_clear (reader_faults f groups links) says.verdict).1)) in
     record { groups = omega (arith, says.lists.0, fits.groups); links = omega (arith, says.lists.1, fits.links) }
 
-pub choice-small :
+pub choice_small :
     {n e : ℕ} {groups links marks amounts : List ℕ} (r : Choice) {marks' amounts' : List ℕ} → ChooserSays n e groups links marks amounts r marks' amounts'
     → SmallChoice r
-choice-small {n} {e} {groups} {links} {marks} {amounts} (Choice.Refused r) says =
+choice_small {n} {e} {groups} {links} {marks} {amounts} (Choice.Refused r) says =
     let small : SmallBy (2 ^ 32) r = chooser_small n e groups links marks amounts says.verdict in
     record { number = small.number; above = small.above; place = omega (arith, small.place) }
-choice-small {n} {e} {groups} {links} {marks} {amounts} (Choice.Chosen rounds) says =
+choice_small {n} {e} {groups} {links} {marks} {amounts} (Choice.Chosen rounds) says =
     let call : AdmittedCall n e groups links marks amounts = admitted_call groups links marks amounts n e says.verdict in
     omega (arith, rounds_few call.sound.some_dead says.lists.counted, call.sound.groups)
 

@@ -12,12 +12,12 @@ use Rattle.survey.specs.Limits.{entry_bytes}
 use Rattle.survey.specs.Words.{stands_at, lent, amounts_of}
 use Rattle.survey.specs.Answers.{reading_number, choice_number, judgement_number}
 use Rattle.survey.proofs.ReaderOne.{reader_one}
-use Rattle.survey.proofs.ChooserOne.{SameChoice, chooser-one, checker_one}
+use Rattle.survey.proofs.ChooserOne.{SameChoice, chooser_one, checker_one}
 use Rattle.words.specs.Words.{Bytes}
-use Rattle.words.proofs.WordLaws.{long-word-bytes}
+use Rattle.words.proofs.WordLaws.{long_word_bytes}
 use Rattle.boundary.proofs.NumberLaws.{reading_number_one, choice_number_one, judgement_number_one}
 use Rattle.corkgully.specs.Numbers.{ReadNumber, ChooseNumber, CheckNumber}
-use Rattle.corkgully.proofs.Fit.{reading_small, choice-small, judgement_small}
+use Rattle.corkgully.proofs.Fit.{reading_small, choice_small, judgement_small}
 
 pub record SameAnswer (x x' : ℕ) (g g' l l' : List ℕ) : Type 0 where
   pub answer : x ≡ x'
@@ -39,10 +39,10 @@ pub record SameChosen (e x x' : ℕ) (m m' a a' : List ℕ) : Type 0 where
   pub after_refusal : 0 < x % 65_536 → a ≡ a'
   pub once_equal : Bytes a → Bytes a' → ((k : ℕ) → k < e → amounts_of a k ≡ amounts_of a' k) → a ≡ a'
 
-pub choose-number-one :
+pub choose_number_one :
     {n e : ℕ} {groups links marks amounts : List ℕ} {x x' : ℕ} {m m' a a' : List ℕ} → ChooseNumber n e groups links marks amounts x m a
     → ChooseNumber n e groups links marks amounts x' m' a' → SameChosen e x x' m m' a a'
-choose-number-one {n} {e} {groups} {links} {marks} {amounts} {x} {x'} {m} {m'} {a} {a'} p q =
+choose_number_one {n} {e} {groups} {links} {marks} {amounts} {x} {x'} {m} {m'} {a} {a'} p q =
     record {
       answer = p.is ∙ ap (λ (r : Choice). choice_number r) same.answer ∙ sym q.is;
       marks = same.marks;
@@ -53,7 +53,7 @@ choose-number-one {n} {e} {groups} {links} {marks} {amounts} {x} {x'} {m} {m'} {
     }
   where
     same : SameChoice e p.choice q.choice m m' a a'
-    same = chooser-one p.says q.says
+    same = chooser_one p.says q.says
 
     refused : (r : Choice) → 0 < x % 65_536 → x ≡ choice_number r → ((y : Refusal) → r ≡ Choice.Refused y → a ≡ a') → a ≡ a'
     refused (Choice.Refused y) h z go = go y refl
@@ -63,7 +63,7 @@ choose-number-one {n} {e} {groups} {links} {marks} {amounts} {x} {x'} {m} {m'} {
     byte b b' h i l =
         let place : stands_at lent (i / entry_bytes) + i % entry_bytes ≡ i = omega arith in
         subst (λ (j : ℕ). get_or a j 0 ≡ get_or a' j 0) place
-        (long-word-bytes b b' (stands_at lent (i / entry_bytes)) (stands_at lent (i / entry_bytes)) (h (i / entry_bytes) (omega arith)) (i % entry_bytes) (omega arith))
+        (long_word_bytes b b' (stands_at lent (i / entry_bytes)) (stands_at lent (i / entry_bytes)) (h (i / entry_bytes) (omega arith)) (i % entry_bytes) (omega arith))
 
 pub check_number_one : {n e : ℕ} {groups links marks amounts : List ℕ} {x x' : ℕ} → CheckNumber n e groups links marks amounts x → CheckNumber n e groups links marks amounts x' → x ≡ x'
 check_number_one a b = a.is ∙ ap (λ (r : Judgement). judgement_number r) (checker_one a.says b.says) ∙ sym b.is
@@ -71,22 +71,22 @@ check_number_one a b = a.is ∙ ap (λ (r : Judgement). judgement_number r) (che
 -- ---- The answer is read back from its number: two answers with the same number are the same answer, whatever calls they answer. So no success has a
 -- refusal's number, and n, e and the count of rounds are read back.
 
-pub read-answer-one :
+pub read_answer_one :
     {f groups links f₂ groups₂ links₂ : List ℕ} {x : ℕ} {g l g₂ l₂ : List ℕ} → Bytes f → Bytes f₂ → (a : ReadNumber f groups links x g l)
     (b : ReadNumber f₂ groups₂ links₂ x g₂ l₂) → a.reading ≡ b.reading
-read-answer-one s s₂ a b =
+read_answer_one s s₂ a b =
     reading_number_one a.reading b.reading (reading_small a.reading s a.says) (reading_small b.reading s₂ b.says) (sym a.is ∙ b.is)
 
-pub choose-answer-one :
+pub choose_answer_one :
     {n e n₂ e₂ : ℕ} {groups links marks amounts groups₂ links₂ marks₂ amounts₂ : List ℕ} {x : ℕ} {m c m₂ c₂ : List ℕ}
     (a : ChooseNumber n e groups links marks amounts x m c) (b : ChooseNumber n₂ e₂ groups₂ links₂ marks₂ amounts₂ x m₂ c₂) → a.choice ≡ b.choice
-choose-answer-one {n} {e} {n₂} {e₂} {groups} {links} {marks} {amounts} {groups₂} {links₂} {marks₂} {amounts₂} a b =
-    choice_number_one a.choice b.choice (choice-small a.choice a.says)
-    (choice-small b.choice b.says) (sym a.is ∙ b.is)
+choose_answer_one {n} {e} {n₂} {e₂} {groups} {links} {marks} {amounts} {groups₂} {links₂} {marks₂} {amounts₂} a b =
+    choice_number_one a.choice b.choice (choice_small a.choice a.says)
+    (choice_small b.choice b.says) (sym a.is ∙ b.is)
 
-pub check-answer-one :
+pub check_answer_one :
     {n e n₂ e₂ : ℕ} {groups links marks amounts groups₂ links₂ marks₂ amounts₂ : List ℕ} {x : ℕ} (a : CheckNumber n e groups links marks amounts x)
     (b : CheckNumber n₂ e₂ groups₂ links₂ marks₂ amounts₂ x) → a.judgement ≡ b.judgement
-check-answer-one {n} {e} {n₂} {e₂} {groups} {links} {marks} {amounts} {groups₂} {links₂} {marks₂} {amounts₂} a b =
+check_answer_one {n} {e} {n₂} {e₂} {groups} {links} {marks} {amounts} {groups₂} {links₂} {marks₂} {amounts₂} a b =
     judgement_number_one a.judgement b.judgement (judgement_small a.judgement a.says)
     (judgement_small b.judgement b.says) (sym a.is ∙ b.is)

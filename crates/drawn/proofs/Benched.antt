@@ -16,7 +16,7 @@ use Rattle.survey.proofs.SetTests.{inside_test, inside_told, contains_test, clos
 use Rattle.survey.proofs.ComputedVerdicts.{lowest_below, verdict_of, verdict_test}
 use Rattle.survey.proofs.ClaimTests.{survey_tests}
 use Rattle.survey.proofs.Drawings.{says_test, right, right_holds, drawings_hold}
-use Rattle.drawn.proofs.Calls.{group_bytes, link_bytes, Lends, zeros, some-call}
+use Rattle.drawn.proofs.Calls.{group_bytes, link_bytes, Lends, zeros, some_call}
 
 -- ---- F2 and F7, each with calls that lend it
 
@@ -28,7 +28,7 @@ abbrev pub f2_links : List Link
 f2_links = link 0 2 ∷ link 1 2 ∷ link 1 3 ∷ link 1 4 ∷ []
 
 pub f2_lent : (marks amounts : List ℕ) → Lends f2 (group_bytes f2_groups ++ zeros 1_024) (link_bytes f2_links ++ zeros 8_192) (marks ++ zeros 128) (amounts ++ zeros 8_192)
-f2_lent = some-call f2_groups f2_links
+f2_lent = some_call f2_groups f2_links
 
 -- F7 (Specification 15.1)
 abbrev pub f7_groups : List Group
@@ -38,7 +38,7 @@ abbrev pub f7_links : List Link
 f7_links = link 0 1 ∷ link 1 2 ∷ link 1 3 ∷ []
 
 pub f7_lent : (marks amounts : List ℕ) → Lends f7 (group_bytes f7_groups ++ zeros 1_024) (link_bytes f7_links ++ zeros 8_192) (marks ++ zeros 128) (amounts ++ zeros 8_192)
-f7_lent = some-call f7_groups f7_links
+f7_lent = some_call f7_groups f7_links
 
 pub f2_admitted : Admitted f2
 unfolding right says_test inside_test all_below lowest_below verdict_of verdict_test survey_tests somewhere any_link via has_cycle

@@ -63,11 +63,11 @@ cut_off {A} xs z f h k = at (ltb k (length xs)) refl
     at false e = sym (get_or-eq_default xs z {n = k} (omega (arith, ltb-false k (length xs) e)))
 
 -- Lists that begin with a drawing's bytes give the drawing, whatever stands after them.
-pub lent-drawing :
+pub lent_drawing :
     (gs : List Group) (ls : List Link) (groupTail linkTail : List ℕ)
     → survey_of (length gs) (length ls) (group_bytes gs ++ groupTail) (link_bytes ls ++ linkTail) ≡ drawn gs ls
 unfolding survey_at
-lent-drawing gs ls groupTail linkTail =
+lent_drawing gs ls groupTail linkTail =
     λ i. record {
       n = length gs;
       e = length ls;
@@ -99,11 +99,11 @@ pub record Lends (s : Survey) (groups links marks amounts : List ℕ) : Type 0 w
 -- Lists that begin with a drawing's bytes lend the drawing, with any bytes after them, if only no list is too short: 128 groups and marks,
 -- 1,024 links and amounts, 8 bytes each but for the marks.
 module _ (gs : List Group) (ls : List Link) (groupTail linkTail marks amounts : List ℕ) where
-  pub bytes-lend :
+  pub bytes_lend :
       1_024 ≤ length groupTail → 8_192 ≤ length linkTail → 128 ≤ length marks → 8_192 ≤ length amounts
       → Lends (drawn gs ls) (group_bytes gs ++ groupTail) (link_bytes ls ++ linkTail) marks amounts
   unfolding OneShort
-  bytes-lend g l m a = record { survey = lent-drawing gs ls groupTail linkTail; long = record { none = λ k h x. short x } }
+  bytes_lend g l m a = record { survey = lent_drawing gs ls groupTail linkTail; long = record { none = λ k h x. short x } }
     where
       short : OneShort (call_lists (group_bytes gs ++ groupTail) (link_bytes ls ++ linkTail) marks amounts) → ⊥
       short (inl x) = omega (arith, length-append (group_bytes gs) groupTail)
@@ -116,11 +116,11 @@ module _ (gs : List Group) (ls : List Link) (groupTail linkTail marks amounts : 
 abbrev pub zeros : ℕ → List ℕ
 zeros k = replicate k 0
 
-pub some-call :
+pub some_call :
     (gs : List Group) (ls : List Link) (marks amounts : List ℕ)
     → Lends (drawn gs ls) (group_bytes gs ++ zeros 1_024) (link_bytes ls ++ zeros 8_192) (marks ++ zeros 128) (amounts ++ zeros 8_192)
-some-call gs ls marks amounts =
-    bytes-lend gs ls (zeros 1_024) (zeros 8_192) (marks ++ zeros 128) (amounts ++ zeros 8_192) (long 1_024) (long 8_192) (after marks 128) (after amounts 8_192)
+some_call gs ls marks amounts =
+    bytes_lend gs ls (zeros 1_024) (zeros 8_192) (marks ++ zeros 128) (amounts ++ zeros 8_192) (long 1_024) (long 8_192) (after marks 128) (after amounts 8_192)
   where
     long : (k : ℕ) → k ≤ length (zeros k)
     long k = omega (arith, length-replicate {A = ℕ} k 0)

@@ -79,20 +79,20 @@ clear_both (f ∷ fs) gs c d = (c.0, clear_both fs gs c.1 d)
 -- ---- the survey of a file, by its entries
 
 -- The groups from block 1 on, the links from their first block on, are those of a drawing.
-groups-told :
+groups_told :
     (f : List ℕ) (w : Stand) (gs : List Group)
     → Decides ((k : ℕ) → k < length gs → group_at f w k ≡ get_or gs k (counts 0 0))
     (all_below (length gs) (λ k. eqb (group_at f w k).dead (get_or gs k (counts 0 0)).dead && eqb (group_at f w k).live (get_or gs k (counts 0 0)).live))
-groups-told f w gs =
+groups_told f w gs =
     all_below_lem (length gs)
     (λ k l. told_iff (λ z i. record { dead = z.0 i; live = z.1 i }) (λ e. (ap (λ (g : Group). g.dead) e, ap (λ (g : Group). g.live) e))
     (both (equal (group_at f w k).dead (get_or gs k (counts 0 0)).dead) (λ z. equal (group_at f w k).live (get_or gs k (counts 0 0)).live)))
 
-links-told :
+links_told :
     (f : List ℕ) (w : Stand) (ls : List Link)
     → Decides ((k : ℕ) → k < length ls → link_at f w k ≡ get_or ls k (link 0 0))
     (all_below (length ls) (λ k. eqb (link_at f w k).from (get_or ls k (link 0 0)).from && eqb (link_at f w k).to (get_or ls k (link 0 0)).to))
-links-told f w ls =
+links_told f w ls =
     all_below_lem (length ls)
     (λ k l. told_iff (λ z i. record { from = z.0 i; to = z.1 i }) (λ e. (ap (λ (g : Link). g.from) e, ap (λ (g : Link). g.to) e))
     (both (equal (link_at f w k).from (get_or ls k (link 0 0)).from) (λ z. equal (link_at f w k).to (get_or ls k (link 0 0)).to)))
@@ -149,8 +149,8 @@ f2_holds =
     record {
       n = refl;
       e = refl;
-      groups = (groups-told f2_file (in_blocks 1) f2_groups).so refl;
-      links = (links-told f2_file (in_blocks 2) f2_links).so refl;
+      groups = (groups_told f2_file (in_blocks 1) f2_groups).so refl;
+      links = (links_told f2_file (in_blocks 2) f2_links).so refl;
     }
 
 f2_blocks : AllClear (block_faults f2_file)
@@ -169,8 +169,8 @@ f7_holds =
     record {
       n = refl;
       e = refl;
-      groups = (groups-told f7_file (in_blocks 1) f7_groups).so refl;
-      links = (links-told f7_file (in_blocks 2) f7_links).so refl;
+      groups = (groups_told f7_file (in_blocks 1) f7_groups).so refl;
+      links = (links_told f7_file (in_blocks 2) f7_links).so refl;
     }
 
 f7_blocks : AllClear (block_faults f7_file)

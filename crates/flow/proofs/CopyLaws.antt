@@ -36,9 +36,9 @@ pub record Alike (s s' : Survey) (x x' : Amounts) : Type 0 where
   pub to : (k : ℕ) → k < s.e → (s.link k).to ≡ (s'.link k).to
   pub amount : (k : ℕ) → k < s.e → x k ≡ x' k
 
-pub given-alike :
+pub given_alike :
     {s : Survey} {n e : ℕ} {links ends₀ ends : List ℕ} {x x' : Amounts} → Given s n e links → Copied e links ends₀ ends → ((k : ℕ) → k < e → x k ≡ x' k) → Alike s (copied n e ends) x x'
-given-alike v o same =
+given_alike v o same =
     record {
       groups = sym v.groups;
       count = sym v.count;

@@ -22,9 +22,9 @@ use Rattle.flow.specs.Copies.{copied, Copy, Copied, Taken}
 use Rattle.flow.specs.Ways.{Way, pays, gives_back, Ways, WaysFound}
 use Rattle.flow.specs.Drains.{Placed, Hop, Begun, Others, Grew, Growable, Growing, Seeable, SawHalf, Grown, Least, Drained}
 use Rattle.flow.proofs.LinkLaws.{bare_given}
-use Rattle.flow.proofs.CopyLaws.{given-alike, alike_least}
+use Rattle.flow.proofs.CopyLaws.{given_alike, alike_least}
 use Rattle.flow.proofs.WayLaws.{ways_inside}
-use Rattle.flow.proofs.GrowLaws.{grew_none, grew-on, grew-growable}
+use Rattle.flow.proofs.GrowLaws.{grew_none, grew_on, grew_growable}
 
 -- where the growing stands: the rows of the groups before place i of the order are seen to
 pub record Growth (n : ℕ) (ways others t order : List ℕ) (c : ℕ) (others' t' order' : List ℕ) (c' i : ℕ) : Type 0 where
@@ -59,7 +59,7 @@ module _
   pub see_first : Seeable n (get_or order i 0) 0 ways others t order c
   see_first =
       record {
-        growing = record { growable = grew-growable p.growable w.grew; who = w.who; room = omega (arith, p.room, w.long) };
+        growing = record { growable = grew_growable p.growable w.grew; who = w.who; room = omega (arith, p.room, w.long) };
         below = w.grew.placed.group i l;
         joined = w.grew.placed.marked i l;
         which = omega arith;
@@ -71,7 +71,7 @@ module _
         record {
           growing =
               record {
-                growable = grew-growable see_first.growing.growable a.grew;
+                growable = grew_growable see_first.growing.growable a.grew;
                 who = a.who;
                 room = omega (arith, see_first.growing.room, a.long);
               };
@@ -80,12 +80,12 @@ module _
           which = omega arith;
         }
 
-    pub growth-on :
+    pub growth_on :
         {others₂ t₂ order₂ : List ℕ} {c₂ : ℕ} → SawHalf n (get_or order i 0) 1 ways others₁ t₁ order₁ c₁ others₂ t₂ order₂ c₂
         → Growth n ways others₀ t₀ order₀ c₀ others₂ t₂ order₂ c₂ (i + 1)
-    growth-on {others₂} {t₂} {order₂} {c₂} b =
+    growth_on {others₂} {t₂} {order₂} {c₂} b =
         record {
-          grew = grew-on w.grew step;
+          grew = grew_on w.grew step;
           reached = omega (arith, step.more);
           seen = λ j h g k. go j h g k (ℕ_discrete j i);
           who = b.who;
@@ -93,7 +93,7 @@ module _
         }
       where
         step : Grew n ways t order c t₂ order₂ c₂
-        step = grew-on a.grew b.grew
+        step = grew_on a.grew b.grew
 
         now : (g : ℕ) → g < n → bit ways (get_or order i 0) g ≡ 1 → get_or t₂ g 0 ≡ 1
         now g k =
@@ -104,10 +104,10 @@ module _
         go j h g k (yes e) = rw (e, step.order_same i l) (now g k)
         go j h g k (no d) = rw (step.order_same j (omega arith)) (λ q. step.marks g (w.seen j (omega arith) g k q))
 
-pub growth-done :
+pub growth_done :
     {n c c' i : ℕ} {ways others t order others' t' order' : List ℕ} → c' ≤ i → Growth n ways others t order c others' t' order' c' i
     → Grown n ways t order c t' order' c'
-growth-done {ways = ways} d w =
+growth_done {ways = ways} d w =
     record {
       grew = w.grew;
       closed =
@@ -119,10 +119,10 @@ growth-done {ways = ways} d w =
 -- ---- the rows have who can pay
 
 -- what growing along the rows asks
-pub ways-growable :
+pub ways_growable :
     {n e c : ℕ} {ends ways t order : List ℕ} {x : Amounts} → Copy n e ends → Ways (copied n e ends) x e ways → 2 * n ≤ length ways → Placed n t order c
     → n ≤ length t → n ≤ length order → Growable n ways t order c
-ways-growable net v long placed t_long order_long =
+ways_growable net v long placed t_long order_long =
     record {
       few = net.few_groups;
       ways_long = long;
@@ -133,10 +133,10 @@ ways-growable net v long placed t_long order_long =
     }
 
 -- each that joined can pay into one that joined before
-pub grown-hops :
+pub grown_hops :
     {s : Survey} {x : Amounts} {ways t order t' order' : List ℕ} {c c' : ℕ} → Ways s x s.e ways → s.n ≤ group_limit
     → Grown s.n ways t order c t' order' c' → (i : ℕ) → c ≤ i → i < c' → Hop s x order' i
-grown-hops v few w i h k =
+grown_hops v few w i h k =
     let r = w.grew.rows i h k in
     let f = v.sound _ _ (omega (arith, few, w.grew.placed.group i k)) r.has in
     record { link = f.0; within = f.1; earlier = r.earlier; before = r.before; way = f.2 }
@@ -160,7 +160,7 @@ module _
           let early = ltb-true i c q in
           rw (w.grew.order_same i early) (h _ (b.placed.group i early) (b.starts i early))
       go false q earlier =
-          let hop = grown-hops v net.few_groups w i (ltb-false i c q) k in
+          let hop = grown_hops v net.few_groups w i (ltb-false i c q) k in
           hops hop.within hop.way (earlier hop.earlier (omega (arith, hop.before)) (omega (arith, hop.before)))
 
   -- where p has joined, whoever can pay into it has
@@ -187,22 +187,22 @@ module _
       }
 
 -- Where the lacks are those of the balances, the least set is the one that drains.
-pub least-drains :
+pub least_drains :
     {s : Survey} {w : Weights} {x : Amounts} {la : ℕ → ℕ} {T : Set} → ((g : ℕ) → g < s.n → la g ≡ lack s w x g) → Least s x la T → Drains s w x T
-least-drains {s} {w} {x} {la} is d =
+least_drains {s} {w} {x} {la} is d =
     record {
       obeys = d.obeys;
       lacks = record { holds = λ g l h. d.holds g l (omega (arith, is g l)) };
       least = λ U o h. d.least U o (λ g l p. h.holds g l (omega (arith, is g l)));
     }
 
-pub drained-law :
+pub drained_law :
     {n e : ℕ} {links amounts la ends₀ ends x₀ x ways₀ ways t₀ order₀ t order t' order' : List ℕ} {c c' : ℕ} → Copied e links ends₀ ends → Copy n e ends
     → Taken e amounts x₀ x
     → WaysFound n e ends x ways₀ ways → Begun n la t₀ order₀ t order c → Grown n ways t order c t' order' c' → Drained n e links amounts la t₀ t'
-drained-law o net y v b w =
+drained_law o net y v b w =
     record {
-      least = λ s g. alike_least (given-alike g o (λ k l. sym (y.at k l))) (grown_least b v.found net w);
+      least = λ s g. alike_least (given_alike g o (λ k l. sym (y.at k l))) (grown_least b v.found net w);
       bits = w.grew.placed.bits;
       rest = λ g h. w.grew.rest g h ∙ b.rest g h;
       long = w.grew.t_long ∙ b.t_long;

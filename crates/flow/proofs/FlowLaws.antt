@@ -15,8 +15,8 @@ use Rattle.flow.specs.Ways.{Way, pays, gives_back, Noted}
 use Rattle.flow.specs.Sends.{Course}
 use Rattle.flow.specs.Waves.{Flowed, Rows, Ran, lacks, Coming, Rises, Passed, fallen, full, onward, Offerable, Offered, kept, took, least_for, Spillable, Passage, Spilled, none, some, Turnable, Turned, rests, sent}
 use Rattle.flow.proofs.CopyLaws.{end_small, other_end, end_below}
-use Rattle.flow.proofs.WayLaws.{noted-ways, noted_length}
-use Rattle.flow.proofs.SafeLaws.{Sent, sendable, sends-sent}
+use Rattle.flow.proofs.WayLaws.{noted_ways, noted_length}
+use Rattle.flow.proofs.SafeLaws.{Sent, sendable, sends_sent}
 
 -- ---- one flowing after the other
 
@@ -32,10 +32,10 @@ flow_none =
       la_rest = λ g h. refl;
     }
 
-pub flow-on :
+pub flow_on :
     {n e : ℕ} {ends amounts ex la amounts' ex' la' amounts'' ex'' la'' : List ℕ} → Flowed n e ends amounts ex la amounts' ex' la'
     → Flowed n e ends amounts' ex' la' amounts'' ex'' la'' → Flowed n e ends amounts ex la amounts'' ex'' la''
-flow-on a b =
+flow_on a b =
     record {
       keeps = λ w h. b.keeps w (a.keeps w h);
       falls = λ g. omega (arith, a.falls g, b.falls g);
@@ -46,9 +46,9 @@ flow-on a b =
       la_rest = λ g h. b.la_rest g h ∙ a.la_rest g h;
     }
 
-pub course-after :
+pub course_after :
     {n e : ℕ} {ends amounts ex la amounts' ex' la' : List ℕ} → Course n e ends amounts ex la → Flowed n e ends amounts ex la amounts' ex' la' → Course n e ends amounts' ex' la'
-course-after c f =
+course_after c f =
     record {
       net = c.net;
       no_cycle = c.no_cycle;
@@ -71,7 +71,7 @@ ran_none = record { flowed = flow_none; rows = λ r. r; long = refl }
 pub ran_on :
     {n e : ℕ} {ends amounts ex la ways amounts' ex' la' ways' amounts'' ex'' la'' ways'' : List ℕ} → Ran n e ends amounts ex la ways amounts' ex' la' ways'
     → Ran n e ends amounts' ex' la' ways' amounts'' ex'' la'' ways'' → Ran n e ends amounts ex la ways amounts'' ex'' la'' ways''
-ran_on a b = record { flowed = flow-on a.flowed b.flowed; rows = λ r. b.rows (a.rows r); long = b.long ∙ a.long }
+ran_on a b = record { flowed = flow_on a.flowed b.flowed; rows = λ r. b.rows (a.rows r); long = b.long ∙ a.long }
 
 -- the total lack does not rise
 pub lacks_fall : {n e : ℕ} {ends amounts ex la amounts' ex' la' : List ℕ} → Flowed n e ends amounts ex la amounts' ex' la' → lacks n la' ≤ lacks n la
@@ -93,11 +93,11 @@ passed_on t f₀ f (onward a i k u v) (fallen b) = fallen (omega (arith, lacks_f
 passed_on t f₀ f (onward a i k u v) (full h l m z) = full h l m z
 passed_on t f₀ f (onward a i k u v) (onward b h l m x) = onward (λ j. b j ∙ a j) h l m x
 
-pub spilled-ran :
+pub spilled_ran :
     {n e m end g : ℕ} {ends amounts ex la ways amounts' ex' la' ways' t : List ℕ} → Spilled n e m end g ends amounts ex la ways t amounts' ex' la' ways'
     → Ran n e ends amounts ex la ways amounts' ex' la' ways'
-spilled-ran (none dry) = ran_none
-spilled-ran (some r up x) = r
+spilled_ran (none dry) = ran_none
+spilled_ran (some r up x) = r
 
 -- ---- along a chain of g, by the end at g; the other end is at 1 - end
 
@@ -125,10 +125,10 @@ module _ {n e end g : ℕ} {ends chains amounts₀ ex₀ la₀ ways₀ t : List 
 
   module _ {amounts ex la ways : List ℕ} {k q : ℕ} (w : Spilling n e end g ends amounts₀ ex₀ la₀ ways₀ t amounts ex la ways k) (l : k < e) (z : q ≡ end_in ends (1 - end) k) where
     course : Course n e ends amounts ex la
-    course = course-after p.course (spilled-ran w.spilled).flowed
+    course = course_after p.course (spilled_ran w.spilled).flowed
 
     rows : Rows n e ends amounts ways
-    rows = (spilled-ran w.spilled).rows p.rows
+    rows = (spilled_ran w.spilled).rows p.rows
 
     q_below : q < n
     q_below = rw z (end_below p.course.net (other_end p.which) k l)
@@ -156,31 +156,31 @@ module _ {n e end g : ℕ} {ends chains amounts₀ ex₀ la₀ ways₀ t : List 
         }
 
     -- what was sent through the link, and noted
-    took-ran :
+    took_ran :
         {amounts' ex' la' ways' : List ℕ} → Sent n e k ends amounts ex la t amounts' ex' la' g → Noted (end_in ends 0 k) (end_in ends 1 k) (flowing amounts' k) ways ways'
         → Ran n e ends amounts ex la ways amounts' ex' la' ways'
-    took-ran x d =
+    took_ran x d =
         record {
           flowed = x.flowed;
-          rows = λ r. record { right = noted-ways course.net course.no_cycle course.once l r.long x.same r.right d; long = omega (arith, r.long, noted_length d) };
+          rows = λ r. record { right = noted_ways course.net course.no_cycle course.once l r.long x.same r.right d; long = omega (arith, r.long, noted_length d) };
           long = noted_length d;
         }
 
     -- the links before the next one of the chain are those before k, and k
-    pub spill-on :
+    pub spill_on :
         {amounts' ex' la' ways' : List ℕ} → 0 < get_or ex g 0 → Offered k g q (least_for end) ends amounts ex la ways t amounts' ex' la' ways'
         → Spilling n e end g ends amounts₀ ex₀ la₀ ways₀ t amounts' ex' la' ways' (get_or chains (next_at end k) 0)
-    spill-on pos o =
+    spill_on pos o =
         record { spilled = go w.spilled (step o); within = after.within; hit = λ h. after.hit h ∙ w.hit l }
       where
         after : IsNext e (end_in ends end) (end_in ends end k) (k + 1) (get_or chains (next_at end k) 0)
         after = p.index.nexts k l
 
         -- nobody takes anything before the next link of the chain
-        dry-before :
+        dry_before :
             ((j : ℕ) → j < k → Passage end g ends amounts₀ t j → ⊥) → (Coming t q → least_for end ≤ flowing amounts₀ k → ⊥)
             → (j : ℕ) → j < get_or chains (next_at end k) 0 → Passage end g ends amounts₀ t j → ⊥
-        dry-before before here j h x = at (ltb j k) refl (eqb j k) refl
+        dry_before before here j h x = at (ltb j k) refl (eqb j k) refl
           where
             at : (a : Bool) → ltb j k ≡ a → (b : Bool) → eqb j k ≡ b → ⊥
             at true u b v = before j (ltb-true j k u) x
@@ -193,13 +193,13 @@ module _ {n e end g : ℕ} {ends chains amounts₀ ex₀ la₀ ways₀ t : List 
 
         step : {amounts' ex' la' ways' : List ℕ} → Offered k g q (least_for end) ends amounts ex la ways t amounts' ex' la' ways' → Step n e k end g q ends amounts ex la ways t amounts' ex' la' ways'
         step (kept shut) = stays shut
-        step (took m least s d) = let x = sends-sent course l (way least) m s in goes (took-ran x d) x.rises (x.passed pos)
+        step (took m least s d) = let x = sends_sent course l (way least) m s in goes (took_ran x d) x.rises (x.passed pos)
 
         go :
             {amounts ex la ways amounts' ex' la' ways' : List ℕ} → Spilled n e k end g ends amounts₀ ex₀ la₀ ways₀ t amounts ex la ways
             → Step n e k end g q ends amounts ex la ways t amounts' ex' la' ways'
             → Spilled n e (get_or chains (next_at end k) 0) end g ends amounts₀ ex₀ la₀ ways₀ t amounts' ex' la' ways'
-        go (none dry) (stays shut) = none (λ pos. dry-before (dry pos) shut)
+        go (none dry) (stays shut) = none (λ pos. dry_before (dry pos) shut)
         go (none dry) (goes r up x) = some r up x
         go (some r up x) (stays shut) = some r up x
         go (some r up x) (goes r' up' x') = some (ran_on r r') (λ j h. omega (arith, up j h, up' j h)) (passed_on t r.flowed r'.flowed x x')
@@ -228,27 +228,27 @@ module _ {n e g : ℕ} {ends chains amounts ex la ways t : List ℕ} (c : Turnab
   module _ {amounts' ex' la' ways' : List ℕ} (first : Spilled n e e 0 g ends amounts ex la ways t amounts' ex' la' ways') where
     pub turn_back : Spillable n e 1 g ends chains amounts' ex' la' ways' t
     turn_back =
-        let r = spilled-ran first in
-        record { course = course-after c.course r.flowed; rows = r.rows c.rows; below = c.below; which = inr refl; index = c.back; t_long = c.t_long }
+        let r = spilled_ran first in
+        record { course = course_after c.course r.flowed; rows = r.rows c.rows; below = c.below; which = inr refl; index = c.back; t_long = c.t_long }
 
   -- The link through which it can pay is one of the two chains, so something was sent.
-  pub turn-sent :
+  pub turn_sent :
       {amounts' ex' la' ways' amounts'' ex'' la'' ways'' : List ℕ} → 0 < get_or ex g 0 → Spilled n e e 0 g ends amounts ex la ways t amounts' ex' la' ways'
       → Spilled n e e 1 g ends amounts' ex' la' ways' t amounts'' ex'' la'' ways'' → Turned n e g ends amounts ex la ways t amounts'' ex'' la'' ways'' 1
-  turn-sent pos (none dry) (none dry') = absurd (go c.way)
+  turn_sent pos (none dry) (none dry') = absurd (go c.way)
     where
       go : Way (copied n e ends) (flowing amounts) c.k g c.p → ⊥
       go (pays to from) = dry' pos c.k c.link (record { hit = to; coming = rw from c.mark; least = omega arith })
       go (gives_back from to has) = dry pos c.k c.link (record { hit = from; coming = rw to c.mark; least = omega arith })
-  turn-sent pos (none dry) (some r up x) = sent r up x
-  turn-sent pos (some r up x) (none dry) = sent r up x
-  turn-sent pos (some r up x) (some r' up' x') = sent (ran_on r r') (λ j h. omega (arith, up j h, up' j h)) (passed_on t r.flowed r'.flowed x x')
+  turn_sent pos (none dry) (some r up x) = sent r up x
+  turn_sent pos (some r up x) (none dry) = sent r up x
+  turn_sent pos (some r up x) (some r' up' x') = sent (ran_on r r') (λ j h. omega (arith, up j h, up' j h)) (passed_on t r.flowed r'.flowed x x')
 
 pub turned_one : {n e g r : ℕ} {ends amounts ex la ways t amounts' ex' la' ways' : List ℕ} → Turned n e g ends amounts ex la ways t amounts' ex' la' ways' r → r ≤ 1
 turned_one (rests z) = omega arith
 turned_one (sent f up passed) = omega arith
 
-pub turned-ran :
+pub turned_ran :
     {n e g r : ℕ} {ends amounts ex la ways t amounts' ex' la' ways' : List ℕ} → Turned n e g ends amounts ex la ways t amounts' ex' la' ways' r → Ran n e ends amounts ex la ways amounts' ex' la' ways'
-turned-ran (rests z) = ran_none
-turned-ran (sent f up passed) = f
+turned_ran (rests z) = ran_none
+turned_ran (sent f up passed) = f

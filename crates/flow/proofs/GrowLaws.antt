@@ -39,10 +39,10 @@ module _ {n : ℕ} {ways : List ℕ} where
         order_long = refl;
       }
 
-  pub grew-on :
+  pub grew_on :
       {t order t' order' t'' order'' : List ℕ} {c c' c'' : ℕ} → Grew n ways t order c t' order' c' → Grew n ways t' order' c' t'' order'' c''
       → Grew n ways t order c t'' order'' c''
-  grew-on {order'' = order''} {c = c} {c' = c'} {c'' = c''} a b =
+  grew_on {order'' = order''} {c = c} {c' = c'} {c'' = c''} a b =
       record {
         placed = b.placed;
         more = omega (arith, a.more, b.more);
@@ -59,9 +59,9 @@ module _ {n : ℕ} {ways : List ℕ} where
       go i h k false e = b.rows i (ltb-false i c' e) k
 
 -- what the next step asks
-pub grew-growable :
+pub grew_growable :
     {n c c' : ℕ} {ways t order t' order' : List ℕ} → Growable n ways t order c → Grew n ways t order c t' order' c' → Growable n ways t' order' c'
-grew-growable p a =
+grew_growable p a =
     record {
       few = p.few;
       ways_long = p.ways_long;
@@ -76,10 +76,10 @@ grew-growable p a =
 pub others_none : (order others : List ℕ) → OthersOf order 0 others others
 others_none order others = record { taken = λ i h. absurd (omega arith); left = λ g l d. refl; long = refl }
 
-pub others-more :
+pub others_more :
     {i : ℕ} {order others₀ others : List ℕ} → get_or order i 0 < 128 → 2 ≤ length others → ((j : ℕ) → j < i → get_or order j 0 < 128) → OthersOf order i others₀ others
     → OthersOf order (i + 1) others₀ (cut_bit others 0 (get_or order i 0))
-others-more {i} {order} {others₀} {others} few room group o =
+others_more {i} {order} {others₀} {others} few room group o =
     record {
       taken = λ j h. gone j h (ℕ_discrete (get_or order j 0) (get_or order i 0));
       left = λ g l d. cut_other others 0 (get_or order i 0) 0 g few l (λ z. d i (omega arith) (sym z.1)) ∙ o.left g l (λ j h. d j (omega arith));
@@ -93,9 +93,9 @@ others-more {i} {order} {others₀} {others} few room group o =
         cut_other others 0 (get_or order i 0) 0 (get_or order j 0) few (group j (omega arith)) (λ z. d z.1) ∙ o.taken j (omega arith)
 
 -- of a full row those that begin it are taken out, so the others are left
-pub others-begun :
+pub others_begun :
     {n c : ℕ} {t order others others' : List ℕ} → n ≤ 128 → Placed n t order c → ((g : ℕ) → g < 128 → bit others 0 g ≡ 1) → OthersOf order c others others' → Others n t others'
-others-begun {n} {c} {t} {order} {others} {others'} few p full o = record { each = λ g l. go g l (ℕ_discrete (get_or t g 0) 1) }
+others_begun {n} {c} {t} {order} {others} {others'} few p full o = record { each = λ g l. go g l (ℕ_discrete (get_or t g 0) 1) }
   where
     go : (g : ℕ) → g < n → Dec (get_or t g 0 ≡ 1) → bit others' 0 g + get_or t g 0 ≡ 1
     go g l (yes z) = let f = p.cover g l z in let gone = rw f.2 at (o.taken f.0 f.1) in omega (arith, gone)

@@ -19,10 +19,10 @@ halved_none plus minus =
       minus_long = refl;
     }
 
-pub halved-more :
+pub halved_more :
     {n a b : ℕ} {plus minus p m : List ℕ} → n < length plus → n < length minus → Halved n plus minus p m → a ≡ get_or p n 0 - get_or m n 0
     → b ≡ get_or m n 0 - get_or p n 0 → Halved (n + 1) plus minus (set p n a) (set m n b)
-halved-more {n} {a} {b} {plus} {minus} {p} {m} lp lm h x y =
+halved_more {n} {a} {b} {plus} {minus} {p} {m} lp lm h x y =
     record {
       above =
           λ g. set_by p n a (λ g v. g < n + 1 → v ≡ get_or plus g 0 - get_or minus g 0) (omega (arith, h.plus_long)) (λ q. omega (arith, h.plus_rest n (omega arith), h.minus_rest n (omega arith)))

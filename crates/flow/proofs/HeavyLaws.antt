@@ -28,10 +28,10 @@ use Rattle.flow.specs.Sends.{Balanced, Course}
 use Rattle.flow.specs.Waves.{unmarked, WavesStart, WavesEnd}
 use Rattle.flow.specs.Heavy.{Halved, Flipped, Weighed, Weighable, Proves, Heavy}
 use Rattle.flow.proofs.LinkLaws.{bare_given, given_from, given_to, given_below}
-use Rattle.flow.proofs.CopyLaws.{Alike, given-alike, alike_least, alike_balanced, alike_no_cycle, net_copyable, net_copy}
-use Rattle.flow.proofs.DrainLaws.{bits_one, least-drains}
+use Rattle.flow.proofs.CopyLaws.{Alike, given_alike, alike_least, alike_balanced, alike_no_cycle, net_copyable, net_copy}
+use Rattle.flow.proofs.DrainLaws.{bits_one, least_drains}
 use Rattle.flow.proofs.SafeLaws.{amount_small}
-use Rattle.flow.proofs.FlowLaws.{course-after}
+use Rattle.flow.proofs.FlowLaws.{course_after}
 use Rattle.flow.proofs.TideLaws.{least_same}
 
 -- ---- a survey that has the links has the balances too
@@ -55,11 +55,11 @@ module _ {s : Survey} {n e : ℕ} {l : List ℕ} (v : Given s n e l) where
 -- ---- what begins it
 
 -- with no amounts a balance is a weight
-none-balanced :
+none_balanced :
     (ends : List ℕ) {n e : ℕ} {plus minus p m : List ℕ} {x : Amounts} {w : Weights} → ((k : ℕ) → k < e → x k ≡ 0) → Halved n plus minus p m → Weighed n plus minus w
     → Balanced (copied n e ends) w x p m
 unfolding gets pays
-none-balanced ends {n} {e} {x = x} z h v =
+none_balanced ends {n} {e} {x = x} z h v =
     record {
       above = λ g l. omega (arith, h.above g l, v.plus_is g l, v.minus_is g l, none (end_in ends 0) g, none (end_in ends 1) g);
       below = λ g l. omega (arith, h.below g l, v.plus_is g l, v.minus_is g l, none (end_in ends 0) g, none (end_in ends 1) g);
@@ -104,7 +104,7 @@ module _ {n e : ℕ} {links plus minus marks amounts ends p m : List ℕ} (c : W
   heavy_course =
       record {
         net = heavy_copy;
-        no_cycle = alike_no_cycle {x = λ k. 0} (given-alike (bare_given n e links) o (λ k l. refl)) c.no_cycle;
+        no_cycle = alike_no_cycle {x = λ k. 0} (given_alike (bare_given n e links) o (λ k l. refl)) c.no_cycle;
         once = λ j k a b f t. c.once j k a b (sym (o.from j a) ∙ f ∙ o.from k b) (sym (o.to j a) ∙ t ∙ o.to k b);
         amounts_long = amounts_long;
         ex_long = omega (arith, h.plus_long, c.plus_long);
@@ -112,7 +112,7 @@ module _ {n e : ℕ} {links plus minus marks amounts ends p m : List ℕ} (c : W
         safe =
             record {
               weights = listed plus minus;
-              balanced = none-balanced ends none_yet h (listed_weighed plus minus);
+              balanced = none_balanced ends none_yet h (listed_weighed plus minus);
               lean = λ g l. omega (arith, h.below g l);
               small = c.small;
             };
@@ -127,7 +127,7 @@ module _ {n e : ℕ} {links plus minus marks amounts ends p m : List ℕ} (c : W
   heavy_puttable l w =
       record {
         few = omega (arith, c.net.few_links);
-        long = omega (arith, (course-after heavy_course w.flowed).amounts_long);
+        long = omega (arith, (course_after heavy_course w.flowed).amounts_long);
         room = omega (arith, c.amounts_long);
       }
 
@@ -153,14 +153,14 @@ module _ {n e : ℕ} {links plus minus marks amounts ends p m : List ℕ} (c : W
         inside = given_inside given c.net
 
         alike : Alike s (copied n e ends) (amounts_of amounts') (flowing a')
-        alike = given-alike given o y.at
+        alike = given_alike given o y.at
 
         balanced : Balanced s v (amounts_of amounts') p' m'
-        balanced = alike_balanced alike (w.flowed.keeps v (none-balanced ends none_yet h weighed))
+        balanced = alike_balanced alike (w.flowed.keeps v (none_balanced ends none_yet h weighed))
 
         drains : Drains s v (amounts_of amounts') (outside (marked_set marks'))
         drains =
-            least-drains balanced.below
+            least_drains balanced.below
             (least_same inside (record { at = λ g l. flips g (rw given.groups l) }) (alike_least alike w.done.least))
 
         dry : (g : ℕ) → g < s.n → In (outside (marked_set marks')) g → credit s v (amounts_of amounts') g ≤ debit s v (amounts_of amounts') g
@@ -176,7 +176,7 @@ module _ {n e : ℕ} {links plus minus marks amounts ends p m : List ℕ} (c : W
     heavy_law =
         record {
           proves = proves;
-          small = λ k l. rw (y.at k l) (amount_small (course-after heavy_course w.flowed) k l);
+          small = λ k l. rw (y.at k l) (amount_small (course_after heavy_course w.flowed) k l);
           bits = λ g l. rw (x.at g l) (bit (eqb (get_or t g 0) 0));
           plus_rest = λ g l. w.flowed.ex_rest g l ∙ h.plus_rest g l;
           minus_rest = λ g l. w.flowed.la_rest g l ∙ h.minus_rest g l;

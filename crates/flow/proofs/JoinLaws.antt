@@ -15,7 +15,7 @@ use Rattle.survey.proofs.Sums.{sum_more, sum_cong, term_le}
 use Rattle.bits.specs.Bits.{digit, without}
 use Rattle.bits.proofs.BitLaws.{digit_bound, zero_digit, lowest_digit, without_same, without_other, without_less}
 use Rattle.flow.specs.Drains.{Placed, Joinable, Joined, Begun, FirstMark, lacking, level, Begins}
-use Rattle.flow.proofs.SumLaws.{sum-change}
+use Rattle.flow.proofs.SumLaws.{sum_change}
 
 -- ---- a list with one place set
 
@@ -81,7 +81,7 @@ module _ {n c g : ℕ} {t order : List ℕ} (p : Placed n t order c) (l : g < n)
 
       fewer : sum n (λ h. 1 - get_or t h 0) ≡ sum n (λ h. 1 - get_or (set t g 1) h 0) + 1
       fewer =
-          sum-change n (λ h. 1 - get_or t h 0) (λ h. 1 - get_or (set t g 1) h 0) g 1 l
+          sum_change n (λ h. 1 - get_or t h 0) (λ h. 1 - get_or (set t g 1) h 0) g 1 l
           (λ i k d. rw (get_or-set_other t g i 1 0 d)) (rw (new_mark, z))
 
 -- ---- the groups of a word join, one by one

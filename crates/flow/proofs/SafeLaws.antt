@@ -21,7 +21,7 @@ use Rattle.flow.specs.Ways.{Way, pays, gives_back}
 use Rattle.flow.specs.Sends.{Course, Movable, Moves, Takes, capped, free, End, Sendable, TakenBy, Sends, paid, gave}
 use Rattle.flow.specs.Waves.{Flowed, Coming, Passed, fallen, full, onward}
 use Rattle.flow.proofs.BoundLaws.{amount_bound, excess_bound}
-use Rattle.flow.proofs.SendLaws.{Raised, Shifts, paid_shifts, gave_shifts, lack_falls, receiver_excess, moved_receiver, moved_lack, moved_lack_else, moved_ex_long, moved_la_long, moved_else, moved-balanced}
+use Rattle.flow.proofs.SendLaws.{Raised, Shifts, paid_shifts, gave_shifts, lack_falls, receiver_excess, moved_receiver, moved_lack, moved_lack_else, moved_ex_long, moved_la_long, moved_else, moved_balanced}
 
 pub net_inside : {n e : ℕ} {ends : List ℕ} → Copy n e ends → Inside (copied n e ends)
 net_inside net = record { from = net.from; to = net.to }
@@ -172,7 +172,7 @@ module _ {n e k g p d y : ℕ} {ends amounts ex la amounts' ex' la' : List ℕ} 
   moves_flowed : ((w : Weights) → Shifts (copied n e ends) w (flowing amounts) (flowing amounts') g p d) → Flowed n e ends amounts ex la amounts' ex' la'
   moves_flowed r =
       record {
-        keeps = λ w b. moved-balanced m other (r w) has gn c.ex_long c.la_long pn b;
+        keeps = λ w b. moved_balanced m other (r w) has gn c.ex_long c.la_long pn b;
         falls = moves_falls;
         amounts_long = rw m.amount (length-set amounts k y);
         ex_long = moved_ex_long m other;
@@ -199,10 +199,10 @@ module _ {n e k g p d y : ℕ} {ends amounts ex la amounts' ex' la' : List ℕ} 
       to (inl some) = go some (ltb 0 (get_or la p 0)) refl
       to (inr none) = full p pn none.0 (omega (arith, none.1, moved_lack m other (omega (arith, c.la_long))))
 
-pub sends-sent :
+pub sends_sent :
     {n e k g p : ℕ} {ends amounts ex la t amounts' ex' la' : List ℕ} → Course n e ends amounts ex la → k < e → Way (copied n e ends) (flowing amounts) k g p → Coming t p
     → Sends k g ends amounts ex la t amounts' ex' la' → Sent n e k ends amounts ex la t amounts' ex' la' g
-sends-sent {n} {e} {k} {g} {p} {ends} {amounts} {ex} {la} {t} {amounts'} {ex'} {la'} c l (pays to from) mark (paid z d takes moves) =
+sends_sent {n} {e} {k} {g} {p} {ends} {amounts} {ex} {la} {t} {amounts'} {ex'} {la'} c l (pays to from) mark (paid z d takes moves) =
     record {
       flowed = moves_flowed c l m other gn pn (most_taken takes) (λ w. paid_shifts w l other to from raised);
       same = raised.else;
@@ -232,9 +232,9 @@ sends-sent {n} {e} {k} {g} {p} {ends} {amounts} {ex} {la} {t} {amounts'} {ex'} {
     up : (i : ℕ) (b : Bool) → eqb i k ≡ b → flowing amounts i ≤ flowing amounts' i
     up i true q = rw (eqb-true i k q) (omega (arith, raised.at))
     up i false q = omega (arith, raised.else i (eqb-false i k q))
-sends-sent c l (pays to from) mark (gave not-to most d low takes moves) = absurd (not-to to)
-sends-sent {k = k} c l (gives_back from to has) mark (paid z d takes moves) = absurd (apart c k l (from ∙ sym z))
-sends-sent {n} {e} {k} {g} {p} {ends} {amounts} {ex} {la} {t} {amounts'} {ex'} {la'} c l (gives_back from to has) mark (gave not-to most d low takes moves) =
+sends_sent c l (pays to from) mark (gave not-to most d low takes moves) = absurd (not-to to)
+sends_sent {k = k} c l (gives_back from to has) mark (paid z d takes moves) = absurd (apart c k l (from ∙ sym z))
+sends_sent {n} {e} {k} {g} {p} {ends} {amounts} {ex} {la} {t} {amounts'} {ex'} {la'} c l (gives_back from to has) mark (gave not-to most d low takes moves) =
     record {
       flowed = moves_flowed c l m other gn pn first (λ w. gave_shifts w l other from to lowered);
       same = old_amount c l m other gn pn first;

@@ -13,7 +13,7 @@ use Rattle.survey.specs.Sets.{sum, only}
 use Rattle.survey.specs.Rounds.{Weights}
 use Rattle.survey.specs.Balance.{Amounts, gets, pays, credit, debit, excess, lack}
 use Rattle.flow.specs.Sends.{Balanced, Receivable, Moves}
-use Rattle.flow.proofs.SumLaws.{sum-change}
+use Rattle.flow.proofs.SumLaws.{sum_change}
 
 -- link k has d more in x' than in x, and each other link the same
 pub record Raised (s : Survey) (x x' : Amounts) (k d : ℕ) : Type 0 where
@@ -24,7 +24,7 @@ module _ {s : Survey} {x x' : Amounts} {k d : ℕ} (l : k < s.e) (r : Raised s x
   -- of the sums over the links with an end at h, only those of that end of link k change
   ends_raised : (end : ℕ → ℕ) (h : ℕ) → sum s.e (λ i. only (eqb (end i) h) (x' i)) ≡ sum s.e (λ i. only (eqb (end i) h) (x i)) + only (eqb (end k) h) d
   ends_raised end h =
-      sum-change s.e (λ i. only (eqb (end i) h) (x' i)) (λ i. only (eqb (end i) h) (x i)) k (only (eqb (end k) h) d) l
+      sum_change s.e (λ i. only (eqb (end i) h) (x' i)) (λ i. only (eqb (end i) h) (x i)) k (only (eqb (end k) h) d) l
       (λ i b other. ap (only (eqb (end i) h)) (r.else i other)) (rw r.at (at (eqb (end k) h) (x k) d))
     where
       at : (t : Bool) (y d : ℕ) → only t (y + d) ≡ only t y + only t d
@@ -123,10 +123,10 @@ module _ {k g p d y : ℕ} {amounts ex la amounts' ex' la' : List ℕ} (m : Move
   moved_la_long = rw m.less (simp length-set)
 
   -- The lists have the halves of the balances afterwards.
-  pub moved-balanced :
+  pub moved_balanced :
       {s : Survey} {w : Weights} {x x' : Amounts} → Shifts s w x x' g p d → d ≤ get_or ex g 0 → g < s.n → s.n ≤ length ex → s.n ≤ length la → p < s.n
       → Balanced s w x ex la → Balanced s w x' ex' la'
-  moved-balanced {s} {w} {x} {x'} r has gn exn lan pn b =
+  moved_balanced {s} {w} {x} {x'} r has gn exn lan pn b =
       record { above = λ h l. high h l (eqb h g) refl (eqb h p) refl; below = λ h l. deep h l (eqb h g) refl (eqb h p) refl }
     where
       gives : d ≤ excess s w x g

@@ -18,12 +18,12 @@ use Rattle.flow.specs.Ways.{WaysFound}
 use Rattle.flow.specs.Drains.{Growable, Begun, Grown, Least}
 use Rattle.flow.specs.Waves.{unmarked, Remarked, Apartable, SetApart, Pourable, Still, Poured, WavesAsk, Wavable, Dry, Waved, WavedOnce, WavedAll, WavesStart, WavesEnd}
 use Rattle.flow.proofs.JoinLaws.{placed_most}
-use Rattle.flow.proofs.DrainLaws.{ways-growable, grown-hops, grown_least}
+use Rattle.flow.proofs.DrainLaws.{ways_growable, grown_hops, grown_least}
 use Rattle.flow.proofs.ChainLaws.{other_head, index_stays}
 use Rattle.flow.proofs.CopyLaws.{end_small, end_below}
 use Rattle.flow.proofs.SafeLaws.{net_inside}
 use Rattle.flow.proofs.ApartLaws.{apart_coming, apart_remarked, apart_ahead, apart_began}
-use Rattle.flow.proofs.FlowLaws.{ran_none, ran_on, course-after, lack_no_excess}
+use Rattle.flow.proofs.FlowLaws.{ran_none, ran_on, course_after, lack_no_excess}
 
 -- The least set is one as far as the survey's groups go.
 pub least_same : {s : Survey} {x : Amounts} {la : ℕ → ℕ} {T T' : Set} → Inside s → Same s T T' → Least s x la T → Least s x la T'
@@ -56,7 +56,7 @@ bit {u} h = go (eqb u 1) refl
 module _ {n e c : ℕ} {ends chains amounts ex la ways t₀ order₀ t₁ order₁ : List ℕ} (p : Wavable n e ends chains amounts ex la ways t₀ order₀) (b : Begun n la t₀ order₀ t₁ order₁ c) where
   pub wave_growable : Growable n ways t₁ order₁ c
   wave_growable =
-      ways-growable p.ask.course.net p.ask.rows.right p.ask.rows.long b.placed (omega (arith, b.t_long, p.ask.t_long))
+      ways_growable p.ask.course.net p.ask.rows.right p.ask.rows.long b.placed (omega (arith, b.t_long, p.ask.t_long))
       (omega (arith, b.order_long, p.order_long))
 
   module _ {t₂ order₂ : List ℕ} {c' : ℕ} (w : Grown n ways t₁ order₁ c t₂ order₂ c') where
@@ -84,7 +84,7 @@ module _ {n e c : ℕ} {ends chains amounts ex la ways t₀ order₀ t₁ order�
           group = w.grew.placed.group;
           once = w.grew.placed.once;
           starts = starts;
-          hops = grown-hops p.ask.rows.right p.ask.course.net.few_groups w;
+          hops = grown_hops p.ask.rows.right p.ask.course.net.few_groups w;
           began = apart_began w.grew.placed w.grew.more a la starts;
           marked = apart_coming w.grew.placed w.grew.more a;
           ahead = apart_ahead w.grew.placed w.grew.more a;
@@ -132,17 +132,17 @@ module _ {n e c : ℕ} {ends chains amounts ex la ways t₀ order₀ t₁ order�
 pub waved_none : {n e : ℕ} {ends amounts ex la ways t : List ℕ} → Waved n e ends amounts ex la ways t amounts ex la ways t
 waved_none = record { ran = ran_none; rest = λ g h. refl; long = refl }
 
-pub waved-on :
+pub waved_on :
     {n e : ℕ} {ends amounts ex la ways t amounts' ex' la' ways' t' amounts'' ex'' la'' ways'' t'' : List ℕ} → Waved n e ends amounts ex la ways t amounts' ex' la' ways' t'
     → Waved n e ends amounts' ex' la' ways' t' amounts'' ex'' la'' ways'' t'' → Waved n e ends amounts ex la ways t amounts'' ex'' la'' ways'' t''
-waved-on a b = record { ran = ran_on a.ran b.ran; rest = λ g h. b.rest g h ∙ a.rest g h; long = b.long ∙ a.long }
+waved_on a b = record { ran = ran_on a.ran b.ran; rest = λ g h. b.rest g h ∙ a.rest g h; long = b.long ∙ a.long }
 
-pub ask-after :
+pub ask_after :
     {n e : ℕ} {ends chains amounts ex la ways t amounts' ex' la' ways' t' : List ℕ} → WavesAsk n e ends chains amounts ex la ways t
     → Waved n e ends amounts ex la ways t amounts' ex' la' ways' t' → WavesAsk n e ends chains amounts' ex' la' ways' t'
-ask-after p w =
+ask_after p w =
     record {
-      course = course-after p.course w.ran.flowed;
+      course = course_after p.course w.ran.flowed;
       rows = w.ran.rows p.rows;
       forth = p.forth;
       back = p.back;

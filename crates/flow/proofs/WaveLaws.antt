@@ -14,7 +14,7 @@ use Rattle.flow.specs.Ways.{Way, pays, gives_back}
 use Rattle.flow.specs.Drains.{Hop}
 use Rattle.flow.specs.Waves.{Ran, lacks, unmarked, Remarked, Coming, Ahead, Passed, fallen, full, onward, Rises, Turned, rests, sent, Turnable, Pourable, Still, Poured}
 use Rattle.flow.proofs.JoinLaws.{set_by}
-use Rattle.flow.proofs.FlowLaws.{ran_none, ran_on, course-after, lacks_fall, lack_no_excess, turned-ran, turned_one}
+use Rattle.flow.proofs.FlowLaws.{ran_none, ran_on, course_after, lacks_fall, lack_no_excess, turned_ran, turned_one}
 
 -- ---- the marks of the groups that are passed
 
@@ -102,7 +102,7 @@ module _ {n e started count : ℕ} {ends chains amounts₀ ex₀ la₀ ways₀ t
     pub pour_turnable : Turnable n e (get_or order i 0) ends chains amounts ex la ways (set t (get_or order i 0) 2)
     pour_turnable =
         record {
-          course = course-after p.course w.ran.flowed;
+          course = course_after p.course w.ran.flowed;
           rows = w.ran.rows p.rows;
           below = p.group i within;
           k = hop.link;
@@ -116,10 +116,10 @@ module _ {n e started count : ℕ} {ends chains amounts₀ ex₀ la₀ ways₀ t
         }
 
     -- what has not sent yet can still send: an amount falls only where the link's own from sends
-    hops-after :
+    hops_after :
         (amounts' : List ℕ) → Rises (get_or order i 0) ends amounts amounts'
         → (j : ℕ) → started ≤ j → j < i → Hop (copied n e ends) (flowing amounts') order j
-    hops-after amounts' up j a b =
+    hops_after amounts' up j a b =
         let h = w.hops j a (omega arith) in
         record { link = h.link; within = h.within; earlier = h.earlier; before = h.before; way = stays h.way }
       where
@@ -165,14 +165,14 @@ module _ {n e started count : ℕ} {ends chains amounts₀ ex₀ la₀ ways₀ t
         go (fell a b) (onward same h l m x) = fell (omega arith) (omega (arith, lacks_fall f.flowed))
         go (level a b j c d) (onward same h l m x) = come (omega arith) (λ u. same u ∙ b u) h l m x
 
-    pub pour-on :
+    pub pour_on :
         {amounts' ex' la' ways' : List ℕ} {r' : ℕ} → Turned n e (get_or order i 0) ends amounts ex la ways (set t (get_or order i 0) 2) amounts' ex' la' ways' r'
         → Pouring n e ends amounts₀ ex₀ la₀ ways₀ t₀ order started count amounts' ex' la' ways' (set t (get_or order i 0) 2) (r + r') i
-    pour-on x =
+    pour_on x =
         record {
           from = on;
           within = omega (arith, w.within, turned_one x);
-          ran = ran_on w.ran (turned-ran x);
+          ran = ran_on w.ran (turned_ran x);
           hops = hops x;
           remarked = passed_remarked t (get_or order i 0) (p.group i within) room (w.marked i (omega arith)) w.remarked;
           began = began_after;
@@ -185,12 +185,12 @@ module _ {n e started count : ℕ} {ends chains amounts₀ ex₀ la₀ ways₀ t
             {amounts' ex' la' ways' : List ℕ} {r' : ℕ} → Turned n e (get_or order i 0) ends amounts ex la ways (set t (get_or order i 0) 2) amounts' ex' la' ways' r' → (j : ℕ) → started ≤ j → j < i
             → Hop (copied n e ends) (flowing amounts') order j
         hops (rests z) j a b = w.hops j a (omega arith)
-        hops {amounts'} (sent f up passed) j a b = hops-after amounts' up j a b
+        hops {amounts'} (sent f up passed) j a b = hops_after amounts' up j a b
 
-  pub pour-done :
+  pub pour_done :
       {amounts ex la ways t : List ℕ} {r i : ℕ} → i ≤ started → Pouring n e ends amounts₀ ex₀ la₀ ways₀ t₀ order started count amounts ex la ways t r i
       → Poured n e ends amounts₀ ex₀ la₀ ways₀ t₀ order started count amounts ex la ways t r
-  pour-done {amounts} {ex} {la} {ways} {t} {r} {i} d w =
+  pour_done {amounts} {ex} {la} {ways} {t} {r} {i} d w =
       record {
         ran = w.ran;
         remarked = w.remarked;
@@ -208,4 +208,4 @@ module _ {n e started count : ℕ} {ends chains amounts₀ ex₀ la₀ ways₀ t
       some z (fell a b) = b
       some z (level a b j c e) =
           let group = p.group j (omega (arith, p.more)) in
-          absurd (omega (arith, lack_no_excess (course-after p.course w.ran.flowed) (get_or order j 0) group (rw (b (get_or order j 0)) (p.starts j (omega arith)))))
+          absurd (omega (arith, lack_no_excess (course_after p.course w.ran.flowed) (get_or order j 0) group (rw (b (get_or order j 0)) (p.starts j (omega arith)))))

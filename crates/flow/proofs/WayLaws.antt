@@ -85,10 +85,10 @@ module _ {n e : ℕ} {ends : List ℕ} (net : Copy n e ends) where
   pub ways_inside : {x : Amounts} {ways : List ℕ} → Ways (copied n e ends) x e ways → (p g : ℕ) → g < group_limit → bit ways p g ≡ 1 → g < n
   ways_inside w p g small has = let found = w.sound p g small has in way_inside found.1 found.2
 
-  added-ways :
+  added_ways :
       {x : Amounts} {k : ℕ} {ways ways' : List ℕ} → k < e → Added (copied n e ends) x k ways ways' → Ways (copied n e ends) x k ways
       → Ways (copied n e ends) x (k + 1) ways'
-  added-ways {x} {k} {ways} {ways'} l a w =
+  added_ways {x} {k} {ways} {ways'} l a w =
       record {
         sound = λ p g small has. old p g small (a.before p g small has);
         complete = λ j g p b way. go j g p b way (ℕ_discrete j k);
@@ -153,11 +153,11 @@ module _ {n e : ℕ} {ends : List ℕ} (net : Copy n e ends) where
         before g h small (inl z) = inl (gives_back (sym (z.1 ∙ zp)) (sym (z.0 ∙ zq)) some)
         before g h small (inr has) = paying h g (put_before ways p q q_small g h small has)
 
-  pub ways-more :
+  pub ways_more :
       {x : Amounts} {k p q : ℕ} {ways ways' : List ℕ} → k < e → p ≡ end_in ends 0 k → q ≡ end_in ends 1 k → 2 * n ≤ length ways
       → Ways (copied n e ends) x k ways → WayFound p q (x k) ways ways' → Ways (copied n e ends) x (k + 1) ways'
-  ways-more {x} {k} {p} {q} {ways} l zp zq room w (both_ways some) = added-ways l (both_added x k p q l zp zq ways room some) w
-  ways-more {x} {k} {p} {q} {ways} l zp zq room w (one_way none) = added-ways l (one_added x k p q l zp zq ways room none) w
+  ways_more {x} {k} {p} {q} {ways} l zp zq room w (both_ways some) = added_ways l (both_added x k p q l zp zq ways room some) w
+  ways_more {x} {k} {p} {q} {ways} l zp zq room w (one_way none) = added_ways l (one_added x k p q l zp zq ways room none) w
 
   pub findable : {k p q : ℕ} (ways : List ℕ) → k < e → p ≡ end_in ends 0 k → q ≡ end_in ends 1 k → 2 * n ≤ length ways → Findable p q ways
   findable {k} ways l zp zq room =
@@ -189,12 +189,12 @@ module _
   way_amount x k j g p l m zp zg (gives_back f t some) = let same : j ≡ k = once j k m l (f ∙ zg) (t ∙ zp) in omega (arith, ap x same)
 
   -- rows in which that bit stands where link k has an amount, and the others are as before
-  changed-ways :
+  changed_ways :
       (x x' : Amounts) (k : ℕ) (ways ways' : List ℕ) → k < e → ((i : ℕ) → (i ≡ k → ⊥) → x' i ≡ x i)
       → ((p g : ℕ) → g < group_limit → ((p ≡ end_in ends 1 k) × (g ≡ end_in ends 0 k) → ⊥) → bit ways' p g ≡ bit ways p g)
       → (bit ways' (end_in ends 1 k) (end_in ends 0 k) ≡ 1 → 0 < x' k) → (0 < x' k → bit ways' (end_in ends 1 k) (end_in ends 0 k) ≡ 1)
       → Ways (copied n e ends) x e ways → Ways (copied n e ends) x' e ways'
-  changed-ways x x' k ways ways' l same other amount stood w =
+  changed_ways x x' k ways ways' l same other amount stood w =
       record {
         sound = λ p g small has. sound p g small has (same_bit (end_in ends 1 k) p (end_in ends 0 k) g);
         complete = λ j g p m way. complete j g p m way (same_bit (end_in ends 1 k) p (end_in ends 0 k) g);
@@ -217,19 +217,19 @@ module _
           other p g (way_small net m way) d ∙ w.complete j g p m (other_way (copied n e ends) x' x k (λ i ne. sym (same i ne)) j g p d way)
 
   -- With the new amount of link k noted at that bit, the rows have the ways again.
-  pub noted-ways :
+  pub noted_ways :
       {x x' : Amounts} {k : ℕ} {ways ways' : List ℕ} → k < e → 2 * n ≤ length ways → ((i : ℕ) → (i ≡ k → ⊥) → x' i ≡ x i)
       → Ways (copied n e ends) x e ways → Noted (end_in ends 0 k) (end_in ends 1 k) (x' k) ways ways' → Ways (copied n e ends) x' e ways'
-  noted-ways {x} {x'} {k} {ways} l room same w (stands some) =
+  noted_ways {x} {x'} {k} {ways} l room same w (stands some) =
       let f = end_in ends 0 k in
       let t = end_in ends 1 k in
       let few : f < group_limit = omega (arith, net.from k l, net.few_groups) in
       let within : 2 * t + 2 ≤ length ways = omega (arith, net.to k l) in
-      changed-ways x x' k ways (put_bit ways t f) l same (λ p g. put_other ways t f p g few) (λ has. some) (λ above. put_same ways t f few within) w
-  noted-ways {x} {x'} {k} {ways} l room same w (fails none) =
+      changed_ways x x' k ways (put_bit ways t f) l same (λ p g. put_other ways t f p g few) (λ has. some) (λ above. put_same ways t f few within) w
+  noted_ways {x} {x'} {k} {ways} l room same w (fails none) =
       let f = end_in ends 0 k in
       let t = end_in ends 1 k in
       let few : f < group_limit = omega (arith, net.from k l, net.few_groups) in
       let within : 2 * t + 2 ≤ length ways = omega (arith, net.to k l) in
-      changed-ways x x' k ways (cut_bit ways t f) l same (λ p g. cut_other ways t f p g few)
+      changed_ways x x' k ways (cut_bit ways t f) l same (λ p g. cut_other ways t f p g few)
       (λ has. absurd (omega (arith, cut_same ways t f few within))) (λ above. absurd (omega arith)) w

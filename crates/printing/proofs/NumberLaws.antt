@@ -43,10 +43,10 @@ numbers_more : (g : ℕ) (P : Set) → number_lines g P ++ number_line P g ≡ n
 unfolding number_lines
 numbers_more g P = rw add-one
 
-pub numbers-step :
+pub numbers_step :
     {before mid after : List ℕ} {at r r' : ℕ} (P : Set) (g : ℕ) → g < 1_000 → PutLine (4 * g) before at (number_lines g P) r mid
     → Put mid r (number_line P g) r' after → PutLine (4 * (g + 1)) before at (number_lines (g + 1) P) r' after
-numbers-step P g h p q =
+numbers_step P g h p q =
     record {
       put = rw (numbers_more g P) at (put_then p.put q);
       short = omega (arith, p.short, q.end, number_short P g h);

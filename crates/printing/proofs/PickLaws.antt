@@ -20,7 +20,7 @@ use Rattle.survey.proofs.Verdicts.{fine_clear, clear_fine, answers_one}
 use Rattle.survey.proofs.GivenSurvey.{given_n}
 use Rattle.survey.specs.Sound.{Sound}
 use Rattle.survey.proofs.Admitted.{admitted_sound, file_survey}
-use Rattle.copies.proofs.FilledSurvey.{filled-survey}
+use Rattle.copies.proofs.FilledSurvey.{filled_survey}
 use Rattle.calls.proofs.CallLaws.{long_enough, call_answered}
 use Rattle.weights.specs.Marked.{groups_of}
 use Rattle.weights.proofs.MarkedLaws.{sound_groups}
@@ -32,13 +32,13 @@ use Rattle.printing.proofs.NumberLaws.{ones}
 -- ---- the three parts of a pick's text
 
 module _ (n e : ℕ) (groups marks : List ℕ) (rounds : ℕ) {k d l : ℕ} where
-  pub marked-put :
+  pub marked_put :
       {before first second after : List ℕ} {r r' r'' : ℕ} → k ≡ sum n (ones marks) → d ≡ D (groups_of n groups) (marked_set marks)
       → l ≡ L (groups_of n groups) (marked_set marks) → PutLine 49 before 0 (survey_line n e) r first
       → PutLine 108 first r (chosen_line k d l rounds) r' second → Put second r' (number_lines n (marked_set marks)) r'' after
       → Put before 0 (marked_text n e groups marks rounds) r'' after
   unfolding total survey_at
-  marked-put ek ed el x y z = put_then (put_then x.put (rw (ek, ed, el) at y.put)) z
+  marked_put ek ed el x y z = put_then (put_then x.put (rw (ek, ed, el) at y.put)) z
 
 -- a text from the first place on, as it is promised
 pub printed : {f before after text : List ℕ} {r : ℕ} → Prints f text → Put before 0 text r after → Printed f before r after
@@ -89,12 +89,12 @@ module _ {n e : ℕ} {groups links out : List ℕ} (a : ReadSurvey n e groups li
       few : n ≤ group_limit
       few = rw (given_n n e groups lent links lent) at sound.groups
 
-pub chosen-put :
+pub chosen_put :
     {n e rounds : ℕ} {groups links marks amounts marks' amounts' before after : List ℕ} {r : ℕ}
     → ChooserSays n e groups links marks amounts (Choice.Chosen rounds) marks' amounts' → Put before 0 (marked_text n e groups marks' rounds) r after
     → PutPick n e groups links before r after
 unfolding total survey_at
-chosen-put {rounds = rounds} {marks' = marks'} s p =
+chosen_put {rounds = rounds} {marks' = marks'} s p =
     record { chosen = marked_set marks'; rounds = rounds; pick = s.lists.pick; counted = s.lists.counted; put = p }
 
 -- ---- what the reader says of a file, where the lists that it is lent are long enough
@@ -108,17 +108,17 @@ only_file f groups links g l x = record { first = ⊎_elim (λ o. absurd (none_s
     none_short = ⊎_elim (λ h. omega arith) (⊎_elim (λ h. omega arith) (λ z. z))
 
 module _ {f groups links : List ℕ} (g : length groups ≡ 1_024) (l : length links ≡ 8_192) where
-  pub refusal-printed :
+  pub refusal_printed :
       {r : Refusal} {groups' links' before after : List ℕ} {x : ℕ} → ReaderSays f groups links (Reading.Refused r) groups' links'
       → Put before 0 (refused_line r) x after → Printed f before x after
-  refusal-printed s p = printed (printsRefused (only_file f groups links g l s.verdict)) p
+  refusal_printed s p = printed (printsRefused (only_file f groups links g l s.verdict)) p
 
   module _ {n e : ℕ} {groups' links' : List ℕ} (s : ReaderSays f groups links (Reading.Survey n e) groups' links') where
     clear : AllClear (file_faults f)
     clear = fine_clear (file_faults f) (only_file f groups links g l s.verdict)
 
     same_survey : survey_of n e groups' links' ≡ survey_in f
-    same_survey = rw (s.lists.0, s.lists.1) (filled-survey s.lists.2 s.lists.3)
+    same_survey = rw (s.lists.0, s.lists.1) (filled_survey s.lists.2 s.lists.3)
 
     pub survey_read : {out : List ℕ} → text_limit ≤ length out → ReadSurvey n e groups' links' out
     survey_read room =

@@ -53,10 +53,10 @@ module _ (f g l : List ℕ) where
     pub file_refused : {r : Refusal} → Answers (file_faults f) (refused r) → ReaderSays f g l (Reading.Refused r) g l
     file_refused a = record { verdict = past long_enough a; lists = (refl, refl) }
 
-    pub file-read :
+    pub file_read :
         {n e first : ℕ} {g' l' : List ℕ} → Answers (file_faults f) fine → n ≡ n_in f → e ≡ e_in f → first ≡ first_link_block n
         → Filled g g' n f (in_blocks first_group_block) → Filled l l' e f (in_blocks first) → ReaderSays f g l (Reading.Survey n e) g' l'
-    file-read a en ee ef x y =
+    file_read a en ee ef x y =
         record {
           verdict = past long_enough a;
           lists = (en, ee, rw en at x, rw (ef, ee, en) at y);

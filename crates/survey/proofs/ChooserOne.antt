@@ -43,10 +43,10 @@ marked_one {s} {before} {after} {after'} a b e =
     at g (no d) = a.rest g (omega arith) ∙ sym (b.rest g (omega arith))
 
 -- lists of amounts that are put alike, but for the first e entries: the same once those are
-amounts-one :
+amounts_one :
     {before a a' : List ℕ} {e : ℕ} → AmountsPut before a e → AmountsPut before a' e
     → ((i : ℕ) → i < entry_bytes * e → get_or a i 0 ≡ get_or a' i 0) → a ≡ a'
-amounts-one {before} {a} {a'} {e} x y h =
+amounts_one {before} {a} {a'} {e} x y h =
     ext_get_or 0 a a' (x.long ∙ sym y.long) (λ i l. at i (dec_lt i (entry_bytes * e)))
   where
     at : (i : ℕ) → Dec (i < entry_bytes * e) → get_or a i 0 ≡ get_or a' i 0
@@ -66,11 +66,11 @@ pub record SameChoice (e : ℕ) (r r' : Choice) (m m' a a' : List ℕ) : Type 0 
 apart : {x : Refusal} {v : Verdict} → v ≡ refused x → v ≡ fine → ⊥
 apart p q = let z : ◌≡◌ {A = ℕ} 0 1 = cc in omega arith
 
-pub chooser-one :
+pub chooser_one :
     {n e : ℕ} {groups links marks amounts : List ℕ} {r r' : Choice} {m m' a a' : List ℕ} → ChooserSays n e groups links marks amounts r m a
     → ChooserSays n e groups links marks amounts r' m' a' → SameChoice e r r' m m' a a'
 unfolding survey_at
-chooser-one {n} {e} {groups} {links} {marks} {amounts} {r} {r'} {m} {m'} {a} {a'} x y =
+chooser_one {n} {e} {groups} {links} {marks} {amounts} {r} {r'} {m} {m'} {a} {a'} x y =
     at r r' (answers_one (chooser_faults n e groups links marks amounts) x.verdict y.verdict) x.lists y.lists
   where
     s : Survey
@@ -97,7 +97,7 @@ chooser-one {n} {e} {groups} {links} {marks} {amounts} {r} {r'} {m} {m'} {a} {a'
           long = p.put.long ∙ sym o.put.long;
           rest = λ i l. p.put.rest i l ∙ sym (o.put.rest i l);
           after_refusal = λ x z. let w : ◌≡◌ {A = ℕ} 0 1 = cc in absurd (omega arith);
-          once_equal = amounts-one p.put o.put;
+          once_equal = amounts_one p.put o.put;
         }
 
 -- two judgements that the checker's promise allows are equal

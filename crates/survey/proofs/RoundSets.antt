@@ -38,9 +38,9 @@ module _ {s : Survey} (i : Inside s) (w : Weights) (S : Set) {a : Amounts} (d : 
       none h = omega arith
 
 -- The last round's set is accepted with its amounts.
-pub round-accepted :
+pub round_accepted :
     {s : Survey} → Inside s → {C : Set} (S : Set) {a : Amounts} → 0 < D s all_groups → Current s C → Drains s (weights s C) a (outside S)
     → ((g : ℕ) → g < s.n → In (outside S) g → credit s (weights s C) a g ≤ debit s (weights s C) a g) → WeighsZero s (weights s C) S → Accepted s S a
-round-accepted {s} i {C} S {a} p c d dry z =
+round_accepted {s} i {C} S {a} p c d dry z =
     subst (λ (X : Set). Accepted s X a) (outside_twice S)
     (last_accepted i p c d dry (subst (λ (X : Set). WeighsZero s (weights s C) X) (sym (outside_twice S)) z))

@@ -21,9 +21,9 @@ words_content k = omega arith
 
 -- In bytes: the pairs of a block stand one after the other, and those of the next block begin a gap further on. So a base, 8 bytes for each pair before this
 -- one, and a gap for each block before its own.
-pub by-base-and-gap :
+pub by_base_and_gap :
     (first k : ℕ) → stands_at (in_blocks first) k ≡ (block_bytes * first + entry_bytes) + entry_bytes * k + (block_bytes - entry_bytes * block_pairs) * (k / block_pairs)
-by-base-and-gap first k = omega arith
+by_base_and_gap first k = omega arith
 
 -- The last pair of a block and the first of the next, and one further on. Groups begin in block 1.
 pub pair_61 : (block_of_pair 1 61 ≡ 1) × (word_of_pair 61 ≡ 124)

@@ -98,10 +98,10 @@ average_takes = takes_least f2 f2_ratio (set_of (1 ∷ 3 ∷ 4 ∷ [])) refl
 pub average_no_pick : IsPick f2 (set_of (1 ∷ 3 ∷ 4 ∷ [])) → ⊥
 average_no_pick p = not_both refl ((pick_one p f2_pick).at 3 (omega arith))
 
-pub averages-on-f2 :
+pub averages_on_f2 :
     {groups links marks amounts marks' amounts' : List ℕ} {r : Choice} → Lends f2 groups links marks amounts
     → ChooserSays 5 4 groups links marks amounts r marks' amounts' → Same f2 (marked_set marks') (set_of (1 ∷ 3 ∷ 4 ∷ [])) → ⊥
-averages-on-f2 c x e = marks_only_pick c f2_admitted x e average_no_pick
+averages_on_f2 c x e = marks_only_pick c f2_admitted x e average_no_pick
 
 -- ---- a drawing that neither average gets right: 1:2, 2:3, 4:5; links (0,1) (0,2)
 

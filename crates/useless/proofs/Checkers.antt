@@ -38,10 +38,10 @@ judged s marks amounts v h =
 
 -- On a call that lends s, it is the verdict that the checker's promise allows.
 module _ {s : Survey} {groups links marks amounts : List ℕ} (c : Lends s groups links marks amounts) where
-  pub judged-so :
+  pub judged_so :
       {v : Verdict} → Answers (list_faults s ++ claim_faults s marks (amounts_of amounts)) v → {r : Judgement}
       → CheckerSays s.n s.e groups links marks amounts r → judgement_verdict r ≡ v
-  judged-so {v} a x =
+  judged_so {v} a x =
       answers_one (checker_faults s.n s.e groups links marks amounts) x.verdict
       (past c.long (subst (λ (t : Survey). Answers (list_faults t ++ claim_faults t marks (amounts_of amounts)) v) (sym c.survey) a))
 
@@ -68,18 +68,18 @@ unfolding judged_test inside_test closed_test eligible_test lowest_below verdict
 f2_judged markTail amountTail = judged f2 (0 ∷ 1 ∷ 0 ∷ 0 ∷ 1 ∷ markTail) (amount_bytes (0 ∷ 0 ∷ 0 ∷ 18 ∷ []) ++ amountTail) fine refl
 
 -- Amounts 0, 0, 0, 18 are accepted, in lists that go on in any way: no allowed answer is anything else.
-pub f2-accepted :
+pub f2_accepted :
     {groups links markTail amountTail : List ℕ}
     → Lends f2 groups links (0 ∷ 1 ∷ 0 ∷ 0 ∷ 1 ∷ markTail) (amount_bytes (0 ∷ 0 ∷ 0 ∷ 18 ∷ []) ++ amountTail) → {r : Judgement}
     → CheckerSays 5 4 groups links (0 ∷ 1 ∷ 0 ∷ 0 ∷ 1 ∷ markTail) (amount_bytes (0 ∷ 0 ∷ 0 ∷ 18 ∷ []) ++ amountTail) r → r ≡ Judgement.Accepted
-f2-accepted {groups} {links} {markTail} {amountTail} c {r} x = accepted_only r (judged-so c (f2_judged markTail amountTail) x)
+f2_accepted {groups} {links} {markTail} {amountTail} c {r} x = accepted_only r (judged_so c (f2_judged markTail amountTail) x)
 
 -- One that refuses everything: here no refusal is allowed.
-pub always-no :
+pub always_no :
     {groups links markTail amountTail : List ℕ}
     → Lends f2 groups links (0 ∷ 1 ∷ 0 ∷ 0 ∷ 1 ∷ markTail) (amount_bytes (0 ∷ 0 ∷ 0 ∷ 18 ∷ []) ++ amountTail) → {x : Refusal}
     → CheckerSays 5 4 groups links (0 ∷ 1 ∷ 0 ∷ 0 ∷ 1 ∷ markTail) (amount_bytes (0 ∷ 0 ∷ 0 ∷ 18 ∷ []) ++ amountTail) (Judgement.Refused x) → ⊥
-always-no c x = not_accepted (f2-accepted c x)
+always_no c x = not_accepted (f2_accepted c x)
 
 -- ---- on the two groups 1:1
 
@@ -89,13 +89,13 @@ unfolding judged_test inside_test closed_test eligible_test lowest_below verdict
 two_judged markTail amounts = judged two_alike (1 ∷ 0 ∷ markTail) amounts (refused_at 18 (Group 1)) refl
 
 -- The claim {0} is refused 18 at group 1: no allowed answer is anything else.
-pub two-refused :
+pub two_refused :
     {groups links markTail amounts : List ℕ} → Lends two_alike groups links (1 ∷ 0 ∷ markTail) amounts → {r : Judgement}
     → CheckerSays 2 0 groups links (1 ∷ 0 ∷ markTail) amounts r → r ≡ Judgement.Refused (record { number = 18; place = Group 1 })
-two-refused {groups} {links} {markTail} {amounts} c {r} x = refused_only r (judged-so c (two_judged markTail amounts) x)
+two_refused {groups} {links} {markTail} {amounts} c {r} x = refused_only r (judged_so c (two_judged markTail amounts) x)
 
 -- One that accepts everything: here it may not.
-pub always-yes :
+pub always_yes :
     {groups links markTail amounts : List ℕ} → Lends two_alike groups links (1 ∷ 0 ∷ markTail) amounts
     → CheckerSays 2 0 groups links (1 ∷ 0 ∷ markTail) amounts Judgement.Accepted → ⊥
-always-yes c x = not_accepted (sym (two-refused c x))
+always_yes c x = not_accepted (sym (two_refused c x))

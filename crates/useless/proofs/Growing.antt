@@ -83,7 +83,7 @@ pub growing_no_pick : IsPick f7 (set_of (0 ∷ [])) → ⊥
 unfolding candidate_test eligible_test closed_test sum total all_below
 growing_no_pick p = p.best.unbeaten all_groups ((candidate_told f7 all_groups).so refl) growing_beaten
 
-pub grows-one-at-a-time :
+pub grows_one_at_a_time :
     {groups links marks amounts marks' amounts' : List ℕ} {r : Choice} → Lends f7 groups links marks amounts
     → ChooserSays 4 3 groups links marks amounts r marks' amounts' → Same f7 (marked_set marks') (set_of (0 ∷ [])) → ⊥
-grows-one-at-a-time c x e = marks_only_pick c f7_admitted x e growing_no_pick
+grows_one_at_a_time c x e = marks_only_pick c f7_admitted x e growing_no_pick

@@ -27,7 +27,7 @@ use Rattle.drawn.proofs.Calls.{Lends}
 use Rattle.useless.proofs.NothingSets.{HasNothing, nothing_no_pick, empty_nothing}
 use Rattle.drawn.proofs.Benched.{f2_admitted}
 use Rattle.useless.proofs.Choosers.{marks_only_pick}
-use Rattle.useless.proofs.Checkers.{always-yes}
+use Rattle.useless.proofs.Checkers.{always_yes}
 
 -- ---- closed the other way round, along links forward: F2 would take group 4 by itself, for its 10:3
 
@@ -70,10 +70,10 @@ forward_not_closed c = not_both (c.back 3 (omega arith) refl) refl
 pub forward_no_pick : IsPick f2 (set_of (4 ∷ [])) → ⊥
 forward_no_pick p = forward_not_closed p.best.candidate.eligible.closed
 
-pub closes-forward :
+pub closes_forward :
     {groups links marks amounts marks' amounts' : List ℕ} {r : Choice} → Lends f2 groups links marks amounts
     → ChooserSays 5 4 groups links marks amounts r marks' amounts' → Same f2 (marked_set marks') (set_of (4 ∷ [])) → ⊥
-closes-forward c x e = marks_only_pick c f2_admitted x e forward_no_pick
+closes_forward c x e = marks_only_pick c f2_admitted x e forward_no_pick
 
 -- ---- the empty set or a set of 0:0 takes part where products are compared
 
@@ -115,7 +115,7 @@ largest_forgotten markTail amounts =
     S = marked_set (1 ∷ 0 ∷ markTail)
 
 -- And yet, on a call that lends them, the checker may not accept it: refusal 18 at group 1 is the one answer (Checkers.two-refused).
-pub forgets-largest :
+pub forgets_largest :
     {groups links markTail amounts : List ℕ} → Lends two_alike groups links (1 ∷ 0 ∷ markTail) amounts
     → LargestForgotten two_alike (1 ∷ 0 ∷ markTail) amounts × (CheckerSays 2 0 groups links (1 ∷ 0 ∷ markTail) amounts Judgement.Accepted → ⊥)
-forgets-largest {groups} {links} {markTail} {amounts} c = (largest_forgotten markTail amounts, λ x. always-yes c x)
+forgets_largest {groups} {links} {markTail} {amounts} c = (largest_forgotten markTail amounts, λ x. always_yes c x)

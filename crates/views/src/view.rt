@@ -1,6 +1,6 @@
-// The view of a block (Specification 9): the block's bytes, where they were lent, and its number. No function over a struct that holds a reference is covered
-// by the borrow checker, so these are few and thin, each proved by hand over a covered function on a slice. All other code reads a file by `block_word`,
-// `block_check` and `block_numbered`, whose parameters are plain, entries too (`entries::pair_at`): no word of a file is read past the view.
+// The view of a block (Specification 9): the block's bytes, where they were lent, and its number. The functions over it are few and thin, each over one on a
+// slice. All other code reads a file by `block_word`, `block_check` and `block_numbered`, whose parameters are plain, entries too (`entries::pair_at`): no
+// word of a file is read past the view.
 ghost use Rattle.std.specs.Prelude.{◌≡◌, ◌+◌, ◌*◌, ◌<◌, ◌≤◌, length, ◌==◌};
 ghost use Rattle.survey.specs.Limits.{block_bytes, content_words};
 ghost use Rattle.survey.specs.Words.{word};

@@ -74,10 +74,10 @@ module _ {n : ℕ} {groups : List ℕ} (e : ℕ) (links : List ℕ) (S : Set) {p
   minus_put g h = p.minuses.first g h
 
 -- The sums of a set of an admitted survey can be put.
-pub sound-puttable :
+pub sound_puttable :
     (n e : ℕ) (groups links : List ℕ) → Sound (survey_of n e groups links) → entry_bytes * n ≤ length groups → (S : Set) {d l : ℕ} → d ≡ D (groups_of n groups) S
     → l ≡ L (groups_of n groups) S → {plus minus : List ℕ} → n ≤ length plus → n ≤ length minus → Puttable n groups d l plus minus
-sound-puttable n e groups links x long S is-d is-l p m =
+sound_puttable n e groups links x long S is-d is-l p m =
     record {
       some = sound_groups n e groups links x long;
       dead = rw is-d (dead_within n e groups links x S);

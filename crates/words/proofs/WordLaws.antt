@@ -33,14 +33,14 @@ number_below zero b i = omega arith
 number_below (suc width) b i = rw pow-suc (omega (arith, number_below width b (suc i), b.small i))
 
 -- A number determines its bytes.
-number-bytes :
+number_bytes :
     (width : ℕ) {l l' : List ℕ} → Bytes l → Bytes l' → (i j : ℕ) → number (bytes_at width l i) ≡ number (bytes_at width l' j)
     → (k : ℕ) → k < width → get_or l (i + k) 0 ≡ get_or l' (j + k) 0
-number-bytes zero b b' i j e k h = absurd (omega arith)
-number-bytes (suc width) b b' i j e zero h = simp add-zero (omega (arith, b.small i, b'.small j))
-number-bytes (suc width) b b' i j e (suc k) h =
+number_bytes zero b b' i j e k h = absurd (omega arith)
+number_bytes (suc width) b b' i j e zero h = simp add-zero (omega (arith, b.small i, b'.small j))
+number_bytes (suc width) b b' i j e (suc k) h =
     rw (add-suc i k, add-suc j k, ← suc-add i k, ← suc-add j k)
-    (number-bytes width b b' (suc i) (suc j) (omega (arith, b.small i, b'.small j)) k (omega arith))
+    (number_bytes width b b' (suc i) (suc j) (omega (arith, b.small i, b'.small j)) k (omega arith))
 
 -- The bytes of a number give it back.
 number_of : (width x : ℕ) → x < 256 ^ width → number (bytes_of width x) ≡ x
@@ -67,13 +67,13 @@ sets_outside (v ∷ vs) l i j (inl h) =
 sets_outside (v ∷ vs) l i j (inr h) =
     sets_outside vs (set l i v) (suc i) j (inr (omega arith)) ∙ get_or-set_other l i j v 0 (λ z. omega arith)
 
-bytesAt-outside :
+bytes_at_outside :
     (width : ℕ) (vs l : List ℕ) (i j : ℕ) → (j + width ≤ i) ⊎ (i + length vs ≤ j) → bytes_at width (sets l i vs) j ≡ bytes_at width l j
-bytesAt-outside zero vs l i j h = refl
-bytesAt-outside (suc width) vs l i j (inl h) =
-    cc (sets_outside vs l i j (inl (omega arith)), bytesAt-outside width vs l i (suc j) (inl (omega arith)))
-bytesAt-outside (suc width) vs l i j (inr h) =
-    cc (sets_outside vs l i j (inr h), bytesAt-outside width vs l i (suc j) (inr (omega arith)))
+bytes_at_outside zero vs l i j h = refl
+bytes_at_outside (suc width) vs l i j (inl h) =
+    cc (sets_outside vs l i j (inl (omega arith)), bytes_at_outside width vs l i (suc j) (inl (omega arith)))
+bytes_at_outside (suc width) vs l i j (inr h) =
+    cc (sets_outside vs l i j (inr h), bytes_at_outside width vs l i (suc j) (inr (omega arith)))
 
 -- .. and there they stand.
 sets_inside : (vs l : List ℕ) (i : ℕ) → i + length vs ≤ length l → bytes_at (length vs) (sets l i vs) i ≡ vs
@@ -101,17 +101,17 @@ long_word_below {l} b i = rw (long_number l i) (number_below 8 b i)
 -- A word determines its four bytes, a long word its eight.
 pub word_bytes :
     {l l' : List ℕ} → Bytes l → Bytes l' → (i j : ℕ) → word l i ≡ word l' j → (k : ℕ) → k < 4 → get_or l (i + k) 0 ≡ get_or l' (j + k) 0
-word_bytes {l} {l'} b b' i j e = number-bytes 4 b b' i j (sym (word_number l i) ∙ e ∙ word_number l' j)
+word_bytes {l} {l'} b b' i j e = number_bytes 4 b b' i j (sym (word_number l i) ∙ e ∙ word_number l' j)
 
-pub long-word-bytes :
+pub long_word_bytes :
     {l l' : List ℕ} → Bytes l → Bytes l' → (i j : ℕ) → long_word l i ≡ long_word l' j → (k : ℕ) → k < 8 → get_or l (i + k) 0 ≡ get_or l' (j + k) 0
-long-word-bytes {l} {l'} b b' i j e = number-bytes 8 b b' i j (sym (long_number l i) ∙ e ∙ long_number l' j)
+long_word_bytes {l} {l'} b b' i j e = number_bytes 8 b b' i j (sym (long_number l i) ∙ e ∙ long_number l' j)
 
 -- A long word determines its two words.
-pub long-word-halves :
+pub long_word_halves :
     {l l' : List ℕ} → Bytes l → Bytes l' → (i j : ℕ) → long_word l i ≡ long_word l' j
     → (word l i ≡ word l' j) × (word l (i + 4) ≡ word l' (j + 4))
-long-word-halves b b' i j e = (omega (arith, word_below b i, word_below b' j), omega (arith, word_below b i, word_below b' j))
+long_word_halves b b' i j e = (omega (arith, word_below b i, word_below b' j), omega (arith, word_below b i, word_below b' j))
 
 module _ (l : List ℕ) (i x : ℕ) where
   pub length_with_word : length (with_word l i x) ≡ length l
@@ -144,18 +144,18 @@ module _ (l : List ℕ) (i x : ℕ) where
   pub word_with_other : (j : ℕ) → (j + 4 ≤ i) ⊎ (i + 4 ≤ j) → word (with_word l i x) j ≡ word l j
   unfolding with_word
   word_with_other j h =
-      word_number (with_word l i x) j ∙ ap number (bytesAt-outside 4 (bytes_of 4 x) l i j h) ∙ sym (word_number l j)
+      word_number (with_word l i x) j ∙ ap number (bytes_at_outside 4 (bytes_of 4 x) l i j h) ∙ sym (word_number l j)
 
   pub long_word_with_other : (j : ℕ) → (j + 8 ≤ i) ⊎ (i + 8 ≤ j) → long_word (with_long_word l i x) j ≡ long_word l j
   unfolding with_long_word
   long_word_with_other j h =
-      long_number (with_long_word l i x) j ∙ ap number (bytesAt-outside 8 (bytes_of 8 x) l i j h) ∙ sym (long_number l j)
+      long_number (with_long_word l i x) j ∙ ap number (bytes_at_outside 8 (bytes_of 8 x) l i j h) ∙ sym (long_number l j)
 
   -- What `put_word` stores, byte by byte ..
-  pub stored-word :
+  pub stored_word :
       set (set (set (set l i (x % 256)) (i + 1) (x / 256 % 256)) (i + 2) (x / 65_536 % 256)) (i + 3) (x / 16_777_216 % 256) ≡ with_word l i x
   unfolding with_word
-  stored-word =
+  stored_word =
       let third : x / 65_536 % 256 ≡ x / 256 / 256 % 256 = omega arith in
       let fourth : x / 16_777_216 % 256 ≡ x / 256 / 256 / 256 % 256 = omega arith in
       simp (add-one, add-two, add-three, third, fourth)

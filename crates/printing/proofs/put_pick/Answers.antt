@@ -1,7 +1,7 @@
 -- `printing::put_pick` meets its contract. The chooser does not refuse an admitted survey, and what it marks is put. Assumes nothing.
 use mathlib.Core.Path.{refl}
 use native.Mathlib.Omega.{arith}
-use Rattle.printing.proofs.PickLaws.{not_refused, chosen_puttable, chosen-put}
+use Rattle.printing.proofs.PickLaws.{not_refused, chosen_puttable, chosen_put}
 use Rattle.printing.proofs.put_pick.Goals as goal
 
 pub put_refused_line-requires : goal.put_refused_line-requires
@@ -14,4 +14,4 @@ pub returns-in-Refused : goal.returns-in-Refused
 returns-in-Refused c = absurd (not_refused c.requires refl refl (rw c.in-Refused.is at c.choose-choice.ensures))
 
 pub returns-in-Chosen : goal.returns-in-Chosen
-returns-in-Chosen c = chosen-put (rw c.in-Chosen.is at c.choose-choice.ensures) c.put_marked.ensures
+returns-in-Chosen c = chosen_put (rw c.in-Chosen.is at c.choose-choice.ensures) c.put_marked.ensures

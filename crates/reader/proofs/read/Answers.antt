@@ -1,5 +1,5 @@
 -- `reader::read` meets its contract. The lists are looked at, then the file, and only then filled. Assumes nothing.
-use Rattle.reader.proofs.Readings.{blocks_clear, group_room, link_room, lists_refused, file_refused, file-read}
+use Rattle.reader.proofs.Readings.{blocks_clear, group_room, link_room, lists_refused, file_refused, file_read}
 use Rattle.reader.proofs.FileLaws.{header_within, groups_fillable, links_fillable}
 use native.Mathlib.Omega.{arith}
 use Rattle.reader.proofs.read.Goals as goal
@@ -43,7 +43,7 @@ returns c =
     let n = c.n_in-n.ensures.0 in
     let e = c.e_in-e.ensures.0 in
     let fine-file = (rw c.in_default.is at c.faults_in-faults.ensures) in
-    file-read a.file.now a.groups.now a.links.now (rw c.if-lists_short.false at c.lists_short.ensures) fine-file n e
+    file_read a.file.now a.groups.now a.links.now (rw c.if-lists_short.false at c.lists_short.ensures) fine-file n e
     c.first_link_block-link_block.ensures
     c.fill.ensures
     c.fill-2.ensures

@@ -1,7 +1,7 @@
 -- `words::put_word` meets its contract. The four stores are the word's bytes. Assumes nothing.
 use native.Mathlib.Omega.{arith}
 use lib.ListN.{length-set}
-use Rattle.words.proofs.WordLaws.{stored-word}
+use Rattle.words.proofs.WordLaws.{stored_word}
 use Rattle.words.proofs.put_word.Goals as goal
 
 pub bounds-b-i-2 : goal.bounds-b-i-2
@@ -14,4 +14,4 @@ pub bounds-b-i-4 : goal.bounds-b-i-4
 bounds-b-i-4 c = simp length-set (omega arith)
 
 pub returns : goal.returns
-returns c = stored-word c.args.b.now c.args.i c.args.x
+returns c = stored_word c.args.b.now c.args.i c.args.x

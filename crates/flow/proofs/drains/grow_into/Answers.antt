@@ -1,6 +1,6 @@
 use native.Mathlib.Omega.{arith}
 use Rattle.flow.proofs.JoinLaws.{placed_most}
-use Rattle.flow.proofs.DrainLaws.{growth_begins, see_first, see_second, growth-on, growth-done}
+use Rattle.flow.proofs.DrainLaws.{growth_begins, see_first, see_second, growth_on, growth_done}
 use Rattle.flow.proofs.drains.grow_into.Goals as goal
 
 pub loop-at-init : goal.loop-at-init
@@ -28,7 +28,7 @@ pub loop-at-smaller : goal.loop-at-smaller
 loop-at-smaller c = omega (arith, c.loop-at-test.true, placed_most c.loop-at.invariant.grew.placed)
 
 pub loop-at-preserved : goal.loop-at-preserved
-loop-at-preserved c = growth-on c.requires c.loop-at.invariant c.loop-at-test.true c.see_half-more.ensures c.see_half-count.ensures
+loop-at-preserved c = growth_on c.requires c.loop-at.invariant c.loop-at-test.true c.see_half-more.ensures c.see_half-count.ensures
 
 pub shape_of-others : goal.shape_of-others
 shape_of-others c = c.loop-at.invariant.long
@@ -40,4 +40,4 @@ pub shape_of-order : goal.shape_of-order
 shape_of-order c = c.loop-at.invariant.grew.order_long
 
 pub returns : goal.returns
-returns c = growth-done c.loop-at-test.false c.loop-at.invariant
+returns c = growth_done c.loop-at-test.false c.loop-at.invariant

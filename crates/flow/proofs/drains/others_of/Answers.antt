@@ -1,6 +1,6 @@
 use mathlib.Core.Path.{◌≡◌}
 use native.Mathlib.Omega.{arith}
-use Rattle.flow.proofs.GrowLaws.{others_none, others-more}
+use Rattle.flow.proofs.GrowLaws.{others_none, others_more}
 use Rattle.flow.proofs.drains.others_of.Goals as goal
 
 pub loop-i-init : goal.loop-i-init
@@ -25,7 +25,7 @@ pub loop-i-smaller : goal.loop-i-smaller
 loop-i-smaller c = omega (arith, c.loop-i-test.true)
 
 pub loop-i-preserved : goal.loop-i-preserved
-loop-i-preserved c = (omega (arith, c.loop-i-test.true), rw c.cut.ensures (others-more (c.requires.group c.loop-i.i c.loop-i-test.true) (omega (arith, c.requires.room, c.loop-i.invariant.1.long)) (λ j h. c.requires.group j (omega (arith, c.loop-i-test.true))) c.loop-i.invariant.1))
+loop-i-preserved c = (omega (arith, c.loop-i-test.true), rw c.cut.ensures (others_more (c.requires.group c.loop-i.i c.loop-i-test.true) (omega (arith, c.requires.room, c.loop-i.invariant.1.long)) (λ j h. c.requires.group j (omega (arith, c.loop-i-test.true))) c.loop-i.invariant.1))
 
 pub shape_of-others : goal.shape_of-others
 shape_of-others c = c.loop-i.invariant.1.long

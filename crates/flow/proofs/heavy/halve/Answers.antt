@@ -1,6 +1,6 @@
 use mathlib.Core.Path.{◌≡◌}
 use native.Mathlib.Omega.{arith}
-use Rattle.flow.proofs.HalfLaws.{halved_none, halved-more}
+use Rattle.flow.proofs.HalfLaws.{halved_none, halved_more}
 use Rattle.flow.proofs.heavy.halve.Goals as goal
 
 pub loop-g-init : goal.loop-g-init
@@ -37,7 +37,7 @@ pub bounds-minus-g-in-loop-g : goal.bounds-minus-g-in-loop-g
 bounds-minus-g-in-loop-g c = omega (arith, c.loop-g.invariant.1.plus_long, c.loop-g.invariant.1.minus_long)
 
 pub loop-g-preserved : goal.loop-g-preserved
-loop-g-preserved c = (omega arith, halved-more (omega arith) (omega arith) c.loop-g.invariant.1 c.above.ensures c.above-in-loop-g.ensures)
+loop-g-preserved c = (omega arith, halved_more (omega arith) (omega arith) c.loop-g.invariant.1 c.above.ensures c.above-in-loop-g.ensures)
 
 pub shape_of-plus : goal.shape_of-plus
 shape_of-plus c = c.loop-g.invariant.1.plus_long

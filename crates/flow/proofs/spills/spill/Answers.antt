@@ -1,6 +1,6 @@
 use native.Mathlib.Omega.{arith}
 use Rattle.flow.proofs.JoinLaws.{above_0}
-use Rattle.flow.proofs.FlowLaws.{spill_small, spill_begins, spill_offerable, spill-on, spill_spent, spill_done, spilled-ran}
+use Rattle.flow.proofs.FlowLaws.{spill_small, spill_begins, spill_offerable, spill_on, spill_spent, spill_done, spilled_ran}
 use Rattle.flow.proofs.spills.spill.Goals as goal
 
 pub least_for-least-requires : goal.least_for-least-requires
@@ -28,19 +28,19 @@ pub offset_bounds-excess-g : goal.offset_bounds-excess-g
 offset_bounds-excess-g c = omega (arith, c.requires.course.net.few_groups, c.requires.below)
 
 pub bounds-excess-g : goal.bounds-excess-g
-bounds-excess-g c = omega (arith, (spilled-ran c.loop-k.invariant.spilled).flowed.ex_long, c.requires.course.ex_long, c.requires.below)
+bounds-excess-g c = omega (arith, (spilled_ran c.loop-k.invariant.spilled).flowed.ex_long, c.requires.course.ex_long, c.requires.below)
 
 pub shape_of-amounts-then-excess-g-eq0 : goal.shape_of-amounts-then-excess-g-eq0
-shape_of-amounts-then-excess-g-eq0 c = (spilled-ran c.loop-k.invariant.spilled).flowed.amounts_long
+shape_of-amounts-then-excess-g-eq0 c = (spilled_ran c.loop-k.invariant.spilled).flowed.amounts_long
 
 pub shape_of-excess-then-excess-g-eq0 : goal.shape_of-excess-then-excess-g-eq0
-shape_of-excess-then-excess-g-eq0 c = (spilled-ran c.loop-k.invariant.spilled).flowed.ex_long
+shape_of-excess-then-excess-g-eq0 c = (spilled_ran c.loop-k.invariant.spilled).flowed.ex_long
 
 pub shape_of-lack-then-excess-g-eq0 : goal.shape_of-lack-then-excess-g-eq0
-shape_of-lack-then-excess-g-eq0 c = (spilled-ran c.loop-k.invariant.spilled).flowed.la_long
+shape_of-lack-then-excess-g-eq0 c = (spilled_ran c.loop-k.invariant.spilled).flowed.la_long
 
 pub shape_of-ways-then-excess-g-eq0 : goal.shape_of-ways-then-excess-g-eq0
-shape_of-ways-then-excess-g-eq0 c = (spilled-ran c.loop-k.invariant.spilled).long
+shape_of-ways-then-excess-g-eq0 c = (spilled_ran c.loop-k.invariant.spilled).long
 
 pub returns-then-excess-g-eq0 : goal.returns-then-excess-g-eq0
 returns-then-excess-g-eq0 c = spill_spent c.requires c.if-excess-g-eq0.true c.loop-k.invariant
@@ -79,19 +79,19 @@ pub loop-k-smaller : goal.loop-k-smaller
 loop-k-smaller c = omega (arith, (c.requires.index.nexts c.loop-k.k c.loop-k-test.true).from, (c.requires.index.nexts c.loop-k.k c.loop-k-test.true).within, c.loop-k-test.true)
 
 pub loop-k-preserved : goal.loop-k-preserved
-loop-k-preserved c = spill-on c.requires c.loop-k.invariant c.loop-k-test.true c.end_in-q.ensures (above_0 c.if-excess-g-eq0.false) (rw c.least_for-least.ensures at c.offer.ensures)
+loop-k-preserved c = spill_on c.requires c.loop-k.invariant c.loop-k-test.true c.end_in-q.ensures (above_0 c.if-excess-g-eq0.false) (rw c.least_for-least.ensures at c.offer.ensures)
 
 pub shape_of-amounts : goal.shape_of-amounts
-shape_of-amounts c = (spilled-ran c.loop-k.invariant.spilled).flowed.amounts_long
+shape_of-amounts c = (spilled_ran c.loop-k.invariant.spilled).flowed.amounts_long
 
 pub shape_of-excess : goal.shape_of-excess
-shape_of-excess c = (spilled-ran c.loop-k.invariant.spilled).flowed.ex_long
+shape_of-excess c = (spilled_ran c.loop-k.invariant.spilled).flowed.ex_long
 
 pub shape_of-lack : goal.shape_of-lack
-shape_of-lack c = (spilled-ran c.loop-k.invariant.spilled).flowed.la_long
+shape_of-lack c = (spilled_ran c.loop-k.invariant.spilled).flowed.la_long
 
 pub shape_of-ways : goal.shape_of-ways
-shape_of-ways c = (spilled-ran c.loop-k.invariant.spilled).long
+shape_of-ways c = (spilled_ran c.loop-k.invariant.spilled).long
 
 pub returns : goal.returns
 returns c = spill_done c.requires c.loop-k-test.false c.loop-k.invariant

@@ -1,7 +1,7 @@
 use Prim.Native.Nat.{◌-◌}
 use native.Mathlib.Omega.{arith}
 use Rattle.flow.proofs.FlowLaws.{turned_one}
-use Rattle.flow.proofs.WaveLaws.{pour_begins, pour_turnable, pour-on, pour-done}
+use Rattle.flow.proofs.WaveLaws.{pour_begins, pour_turnable, pour_on, pour_done}
 use Rattle.flow.proofs.waves.pour.Goals as goal
 
 pub loop-i-init : goal.loop-i-init
@@ -26,7 +26,7 @@ pub overflow_add-sent : goal.overflow_add-sent
 overflow_add-sent c = omega (arith, c.loop-i.invariant.within, c.requires.most, c.requires.course.net.few_groups, c.loop-i-test.true, turned_one c.turn-sent.ensures)
 
 pub loop-i-preserved : goal.loop-i-preserved
-loop-i-preserved c = pour-on c.requires c.loop-i.invariant (omega arith) (omega arith) c.turn-sent.ensures
+loop-i-preserved c = pour_on c.requires c.loop-i.invariant (omega arith) (omega arith) c.turn-sent.ensures
 
 pub shape_of-amounts : goal.shape_of-amounts
 shape_of-amounts c = c.loop-i.invariant.ran.flowed.amounts_long
@@ -44,4 +44,4 @@ pub shape_of-t : goal.shape_of-t
 shape_of-t c = c.loop-i.invariant.remarked.long
 
 pub returns : goal.returns
-returns c = pour-done c.requires c.loop-i-test.false c.loop-i.invariant
+returns c = pour_done c.requires c.loop-i-test.false c.loop-i.invariant
