@@ -1,4 +1,4 @@
-//! Links the proved library, an archive that `rt staticlib corkgully` writes. `CORKGULLY_LIB_DIR`
+//! Links the proved library, an archive that `rt lib` in crates/corkgully writes. `CORKGULLY_LIB_DIR`
 //! names another folder to take it from.
 
 use std::env;
@@ -7,7 +7,7 @@ use std::path::{Path, PathBuf};
 fn main() {
     let here = env::var_os("CARGO_MANIFEST_DIR").expect("cargo names this crate's folder");
     let folder = env::var_os("CORKGULLY_LIB_DIR").map_or_else(
-        || Path::new(&here).join("../target/staticlib"),
+        || Path::new(&here).join("../crates/corkgully/out"),
         PathBuf::from,
     );
     let archive = folder.join("libcorkgully.a");
@@ -19,7 +19,7 @@ fn main() {
     if !archive.is_file() {
         // The linker would say so too, but not what makes the archive.
         eprintln!(
-            "{} is not there: `rt staticlib corkgully` makes it",
+            "{} is not there: `rt lib` in crates/corkgully makes it",
             archive.display()
         );
         std::process::exit(1);
