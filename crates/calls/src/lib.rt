@@ -19,6 +19,7 @@ const GROUPS: usize = 128;
 const LINKS: usize = 1_024;
 
 // 1. A mark is one byte, so a list of marks has as many entries as bytes.
+#[tactic(auto, unfolding(survey::specs::Faults::OneShort))]
 fn list_short(groups: &[u8], links: &[u8], marks: &[u8], amounts: &[u8]) -> bool
     ensures { Tells (OneShort (call_lists groups.now links.now marks.now amounts.now)) result }
 {

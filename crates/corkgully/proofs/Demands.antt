@@ -29,7 +29,7 @@ pub record Demand1 : Type 1 where
       → Outcome (checker_faults n e groups links marks amounts) x (Unit {0}) (x ≡ 0)
 
 pub demand_1 : Demand1
-demand_1 = record { reader = laws.reader-outcome; chooser = laws.chooser-outcome; checker = laws.checker-outcome }
+demand_1 = record { reader = laws.reader_outcome; chooser = laws.chooser_outcome; checker = laws.checker_outcome }
 
 -- 2. With lists that are long enough, a survey gets a pick exactly when it is admitted, and it is the pick: no other set is.
 pub record Demand2 : Type 0 where
@@ -52,7 +52,7 @@ demand_2 =
     record {
       admitted_picked = laws.admitted_picked;
       picked_admitted = laws.picked_admitted;
-      file_picked = laws.file-picked;
+      file_picked = laws.file_picked;
       read_admitted = laws.read_admitted;
     }
 

@@ -114,7 +114,7 @@ largest_forgotten markTail amounts =
     S : Set
     S = marked_set (1 ∷ 0 ∷ markTail)
 
--- And yet, on a call that lends them, the checker may not accept it: refusal 18 at group 1 is the one answer (Checkers.two-refused).
+-- And yet, on a call that lends them, the checker may not accept it: refusal 18 at group 1 is the one answer (Checkers.two_refused).
 pub forgets_largest :
     {groups links markTail amounts : List ℕ} → Lends two_alike groups links (1 ∷ 0 ∷ markTail) amounts
     → LargestForgotten two_alike (1 ∷ 0 ∷ markTail) amounts × (CheckerSays 2 0 groups links (1 ∷ 0 ∷ markTail) amounts Judgement.Accepted → ⊥)

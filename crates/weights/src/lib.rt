@@ -65,7 +65,7 @@ pub fn live_sum(n: usize, groups: &[u8], marks: &[u8]) -> Live
     sum
 }
 
-// The weight of each group, its two halves apart: plus[g] is typeof.dead.L and minus[g] is typeof.cost.D, where d and l are the sums of the set that gives the weights.
+// The weight of each group, its two halves apart: plus[g] is dead·L and minus[g] is cost·D, where d and l are the sums of the set that gives the weights.
 pub fn put_weights(n: usize, groups: &[u8], d: Dead, l: Live, plus: &mut [u64], minus: &mut [u64])
     requires { Puttable n groups.now d.0 l.0 plus.old minus.old }
     ensures { WeightsPut n groups.now d.0 l.0 plus.old minus.old plus.new minus.new }

@@ -14,7 +14,7 @@ use lib.Seq.{sets, length-sets, get_or-set_same, get_or-set_other}
 use Rattle.survey.specs.Words.{word, long_word}
 use Rattle.words.specs.Words.{bytes_of, with_word, with_long_word, Bytes}
 
--- What a lent list of bytes tells of each: `bytes_of_lem (now ..) (c .. .shared-slice-known .given)`.
+-- What a lent list of bytes tells of each, as a record.
 pub bytes_of_lem : (l : List ℕ) → ((k : ℕ) → Fits w8 (get_or l k 0)) → Bytes l
 bytes_of_lem l given = record { small = λ k. (given k).fits }
 

@@ -13,10 +13,6 @@ pub returns-then-whole_entries-lt-LINKS : goal.returns-then-whole_entries-lt-LIN
 unfolding OneShort
 returns-then-whole_entries-lt-LINKS c = inr (inl (omega (arith, c.whole_entries-2.ensures)))
 
-pub returns-then-marks-lt-GROUPS : goal.returns-then-marks-lt-GROUPS
-unfolding OneShort
-returns-then-marks-lt-GROUPS c = inr (inr (inl c.if-marks-lt-GROUPS.true))
-
 pub returns-then-whole_entries-lt-LINKS-2 : goal.returns-then-whole_entries-lt-LINKS-2
 unfolding OneShort
 returns-then-whole_entries-lt-LINKS-2 c = inr (inr (inr (inl (omega (arith, c.whole_entries-3.ensures)))))
@@ -27,6 +23,6 @@ returns c =
     (record {
       groups_have = omega (arith, c.whole_entries.ensures);
       links_have = omega (arith, c.whole_entries-2.ensures);
-      marks_have = c.if-marks-lt-GROUPS.false;
+      marks_have = omega arith;
       amounts_have = omega (arith, c.whole_entries-3.ensures);
     })

@@ -18,7 +18,7 @@ loop-k-preserved c =
     let filled = c.loop-k.invariant.0 in
     let taken = c.loop-k-test.true in
     let room = c.requires.room in
-    let small = c.shared_slice_known-1.given in
+    let small = c.type_inv.file in
     let read = c.pair_at-pair.ensures in
     (filled_more filled (copied (bytes_of_lem _ small) (omega (arith, room, filled.long, taken)) read c.put_pair.ensures), omega arith)
 

@@ -4,7 +4,7 @@ use Rattle.words.proofs.WordLaws.{bytes_of_lem}
 use Rattle.corkgully.proofs.corkgully_read.Goals as goal
 
 pub reading_number-requires : goal.reading_number-requires
-reading_number-requires c = reading_small c.read.result (bytes_of_lem c.args.file.now c.shared_slice_known-1.given) c.read.ensures
+reading_number-requires c = reading_small c.read.result (bytes_of_lem c.args.file.now c.type_inv.file) c.read.ensures
 
 pub returns : goal.returns
 returns c =

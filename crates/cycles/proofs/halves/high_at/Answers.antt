@@ -4,7 +4,7 @@ use mathlib.Core.Path.{refl}
 use Rattle.cycles.proofs.halves.high_at.Goals as goal
 
 pub overflow_cast-result : goal.overflow_cast-result
-overflow_cast-result c = omega (arith, c.shared_slice_known-1.given c.args.g)
+overflow_cast-result c = omega (arith, c.type_inv.w c.args.g)
 
 pub returns : goal.returns
 unfolding high_of

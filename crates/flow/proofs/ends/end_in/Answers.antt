@@ -6,7 +6,7 @@ use Rattle.flow.specs.Copies.{end_in}
 use Rattle.flow.proofs.ends.end_in.Goals as goal
 
 pub overflow_cast-result : goal.overflow_cast-result
-overflow_cast-result c = omega (arith, c.shared_slice_known-1.given (2 * c.args.k + c.args.end))
+overflow_cast-result c = omega (arith, c.type_inv.ends (2 * c.args.k + c.args.end))
 
 pub returns : goal.returns
 unfolding end_in
