@@ -83,16 +83,16 @@ file_rows f hb hn he = (
 
 module _ {r : Refusal} where
   -- A look at a fault of place nothing: the refusal is small, or the fault is not there and the answer is the others'.
-  first-whole :
+  first_whole :
       (P : Type 0) (number : ℕ) (fs : List Fault) → (0 < number) × (number < 256) → (Clear (whole number P) → Answers fs (refused r) → SmallBy place_room r)
       → Answers (whole number P ∷ fs) (refused r) → SmallBy place_room r
-  first-whole P number fs h go a =
+  first_whole P number fs h go a =
       ⊎_elim (λ g. given_small (few_whole number P h (omega arith)) g) (λ c. go c.0 c.1) (look (whole number P) fs a)
 
   -- 5 and 8 to 12, and whatever comes after: past 5, n and e are in their range
   list_small : (s : Survey) (more : List Fault) → (s.n ≤ place_room → s.e ≤ place_room → AllFew place_room more) → Answers (list_faults s ++ more) (refused r) → SmallBy place_room r
   list_small s more few a =
-      first-whole ((s.n < 1) ⊎ ((group_limit < s.n) ⊎ (link_limit < s.e))) 5 (survey_faults s ++ more) (omega arith, omega arith)
+      first_whole ((s.n < 1) ⊎ ((group_limit < s.n) ⊎ (link_limit < s.e))) 5 (survey_faults s ++ more) (omega arith, omega arith)
       (λ c. refused_small (survey_faults s ++ more) (few_more (survey_faults s) more (survey_few s (groups c) (links c)) (few (groups c) (links c))))
       a
     where
@@ -110,7 +110,7 @@ module _ {r : Refusal} where
 
   pub chooser_small : (n e : ℕ) (g l m a : List ℕ) → Answers (chooser_faults n e g l m a) (refused r) → SmallBy place_room r
   chooser_small n e g l m a x =
-      first-whole (OneShort (call_lists g l m a)) 1 (list_faults (survey_of n e g l)) (omega arith, omega arith)
+      first_whole (OneShort (call_lists g l m a)) 1 (list_faults (survey_of n e g l)) (omega arith, omega arith)
       (λ c y. list_small (survey_of n e g l) [] (λ h k. none_few) (at (list_faults (survey_of n e g l)) y))
       x
     where
@@ -119,7 +119,7 @@ module _ {r : Refusal} where
 
   pub checker_small : (n e : ℕ) (g l m a : List ℕ) → Answers (checker_faults n e g l m a) (refused r) → SmallBy place_room r
   checker_small n e g l m a x =
-      first-whole (OneShort (call_lists g l m a)) 1 (list_faults s ++ claim_faults s m (amounts_of a)) (omega arith, omega arith)
+      first_whole (OneShort (call_lists g l m a)) 1 (list_faults s ++ claim_faults s m (amounts_of a)) (omega arith, omega arith)
       (λ c y. list_small s (claim_faults s m (amounts_of a)) (claim_few s m (amounts_of a)) y)
       x
     where
@@ -129,8 +129,8 @@ module _ {r : Refusal} where
   -- of a file whose words are words: 2^32 is above any n and e that one can hold
   pub reader_small : (f g l : List ℕ) → n_in f ≤ place_room → e_in f ≤ place_room → Answers (reader_faults f g l) (refused r) → SmallBy place_room r
   reader_small f g l hn he x =
-      first-whole _ 1 (file_faults f) (omega arith, omega arith)
-      (λ c y. first-whole _ 2 (after_length f) (omega arith, omega arith) (λ d z. refused_small (after_length f) (file_few d) z) y) x
+      first_whole _ 1 (file_faults f) (omega arith, omega arith)
+      (λ c y. first_whole _ 2 (after_length f) (omega arith, omega arith) (λ d z. refused_small (after_length f) (file_few d) z) y) x
     where
       blocks : Clear (bad_length f) → block_count f ≤ place_room
       blocks c = at (λ h. c.none 0 (omega arith) (inr (inr h)))
