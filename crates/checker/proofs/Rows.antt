@@ -6,8 +6,13 @@ use mathlib.Core.List.{List}
 use Rattle.survey.specs.Limits.{amount_limit}
 use Rattle.survey.specs.Sets.{D}
 use Rattle.survey.specs.Words.{survey_at, survey_of, marked_set, amounts_of}
-use Rattle.survey.specs.Refusals.{Clear}
-use Rattle.survey.specs.Faults.{bad_mark, bad_amount, not_closed, nothing_dead}
+use Rattle.survey.specs.Refusals.{Clear, Answers, refused}
+use Rattle.survey.specs.declared.answers.Refusal.{Refusal}
+use Rattle.survey.proofs.Verdicts.{past}
+use Rattle.refusals.proofs.Looking.{stop_whole}
+use Rattle.refusals.specs.Refused.{refusal_whole}
+use Rattle.refusals.specs.declared.found.Found.TheVariants.{Missing}
+use Rattle.survey.specs.Faults.{bad_mark, bad_amount, not_closed, nothing_dead, claim_faults}
 use Rattle.refusals.specs.declared.found.Found.{Found}
 use Rattle.refusals.specs.Searches.{Finds}
 use Rattle.calls.specs.Calls.{AdmittedCall}
@@ -42,6 +47,18 @@ module _ (n e : ℕ) (groups links marks amounts : List ℕ) where
 
   pub some_dead_lem : {d : ℕ} → d ≡ D (groups_of n groups) (marked_set marks) → (d ≡ 0 → ⊥) → (nothing_dead (survey_of n e groups links) (marked_set marks)).at 0 → ⊥
   some_dead_lem is not z = not (is ∙ sym (dead_alone n e groups links (marked_set marks)) ∙ z)
+
+-- 16 is the first fault where no mark, amount or link is at fault and nothing is dead.
+pub nothing_refused :
+    (n e : ℕ) (groups links marks amounts : List ℕ) {m a o : Found} {d : ℕ} {r : Refusal}
+    → Finds (mark_row n marks) m → m ≡ Missing → Finds (amount_row e amounts) a → a ≡ Missing → Finds (closed_row e links marks) o → o ≡ Missing
+    → d ≡ D (groups_of n groups) (marked_set marks) → d ≡ 0 → r ≡ refusal_whole 16
+    → Answers (claim_faults (survey_of n e groups links) marks (amounts_of amounts)) (refused r)
+nothing_refused n e groups links marks amounts {m} {a} {o} fm im fa ia fo io is z k =
+    past (rw im at (mark_row_lem n e groups links marks amounts m fm))
+    (past (rw ia at (amount_row_lem n e groups links marks amounts a fa))
+    (past (rw io at (closed_row_lem n e groups links marks amounts o fo))
+    (stop_whole (none_dead n e groups links marks amounts is z) k)))
 
 -- ---- what the steps ask, of an admitted call
 

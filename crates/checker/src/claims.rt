@@ -13,6 +13,7 @@ use survey::stands::Stand;
 const AMOUNT: u64 = 20_000_000_000_000_000;
 
 // 13: the lowest group at fault.
+#[tactic(auto, using(refusals::proofs::Looking::found_here, crate::proofs::Looks::mark_bad))]
 pub fn first_bad_mark(n: usize, marks: &[u8]) -> Found
     requires { n ≤ length marks.now }
     ensures { Finds (mark_row n marks.now) result }

@@ -19,6 +19,7 @@ use survey::answers::{Admission, Judgement};
 use weights::dead_sum;
 
 // 13 to 18, of a claim on an admitted survey.
+#[tactic(auto, using(crate::proofs::Rows::nothing_refused))]
 fn claim_faults(
     n: usize,
     e: usize,

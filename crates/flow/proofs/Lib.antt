@@ -8,6 +8,7 @@ pub mod CopyLaws
 -- Ways as rows of bits.
 pub mod WayLaws
 -- The set that drains.
+pub mod FirstMarks
 pub mod JoinLaws
 pub mod GrowLaws
 pub mod DrainLaws

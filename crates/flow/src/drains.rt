@@ -5,6 +5,7 @@ ghost use Rattle.flow.specs.Drains.{Beginnable, BeginRoom, Begun, FirstMark, Beg
 use bits::{FULL, cut, leave, lowest};
 
 // The mark of a group as it begins: 1 where it has a lack.
+#[tactic(auto, using(crate::proofs::FirstMarks::marked_lacking, crate::proofs::FirstMarks::marked_level))]
 fn first_mark(lack: u64) -> u8
     ensures { FirstMark lack result }
 {

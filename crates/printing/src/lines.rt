@@ -42,12 +42,15 @@ pub fn put_refused_line(r: Refusal, at: usize, out: &mut [u8]) -> usize
     put_text(b"\n", after_place, out)
 }
 
+// what marks a picked group
+const PICKED: u8 = 1;
+
 // The number of group g on a line of its own, where the group is marked.
 fn put_number(g: usize, marks: &[u8], at: usize, out: &mut [u8]) -> usize
     requires { (g < length marks.now) × (at + 21 ≤ length out.old) }
     ensures { Put out.old at (number_line (marked_set marks.now) g) result out.new }
 {
-    if marks[g] == 1 {
+    if marks[g] == PICKED {
         let after = put_decimal(g as u64, at, out);
         return put_text(b"\n", after, out);
     }

@@ -1,8 +1,9 @@
 -- `checker::claim_faults` meets its contract. A row after the other, each said of the survey. Assumes nothing.
-use Rattle.checker.proofs.Rows.{mark_row_lem, amount_row_lem, closed_row_lem, none_dead, some_dead_lem, ends_marked, rule_asks}
+use Rattle.checker.proofs.Rows.{mark_row_lem, amount_row_lem, closed_row_lem, some_dead_lem, ends_marked, rule_asks}
 use Rattle.balance.proofs.Balancing.{marked_groups}
-use Rattle.refusals.proofs.Looking.{stop_at, stop_whole, whole_clear}
+use Rattle.refusals.proofs.Looking.{stop_at, whole_clear}
 use Rattle.survey.proofs.Verdicts.{past}
+use native.Mathlib.Omega.{arith}
 use Rattle.checker.proofs.claim_faults.Goals as goal
 
 pub returns-in-At : goal.returns-in-At
@@ -20,11 +21,8 @@ returns-in-At-open c = past (rw c.in_default.is at (mark_row_lem c.args.n c.args
 pub dead_sum-d-requires : goal.dead_sum-d-requires
 dead_sum-d-requires c = marked_groups c.requires
 
-pub returns-then-d-eq0 : goal.returns-then-d-eq0
-returns-then-d-eq0 c = past (rw c.in_default.is at (mark_row_lem c.args.n c.args.e c.args.groups.now c.args.links.now c.args.marks.now c.args.amounts.now c.first_bad_mark-bad_mark.result c.first_bad_mark-bad_mark.ensures)) (past (rw c.in_default-above_limit.is at (amount_row_lem c.args.n c.args.e c.args.groups.now c.args.links.now c.args.marks.now c.args.amounts.now c.first_above_limit-above_limit.result c.first_above_limit-above_limit.ensures)) (past (rw c.in_default-open.is at (closed_row_lem c.args.n c.args.e c.args.groups.now c.args.links.now c.args.marks.now c.args.amounts.now c.first_open-open.result c.first_open-open.ensures)) (stop_whole (none_dead c.args.n c.args.e c.args.groups.now c.args.links.now c.args.marks.now c.args.amounts.now c.dead_sum-d.ensures c.if-d-eq0.true) c.refused_whole.ensures)))
-
 pub rule_faults-requires : goal.rule_faults-requires
 rule_faults-requires c = rule_asks c.requires (rw c.in_default-above_limit.is at c.first_above_limit-above_limit.ensures) c.dead_sum-d.ensures
 
 pub returns : goal.returns
-returns c = past (rw c.in_default.is at (mark_row_lem c.args.n c.args.e c.args.groups.now c.args.links.now c.args.marks.now c.args.amounts.now c.first_bad_mark-bad_mark.result c.first_bad_mark-bad_mark.ensures)) (past (rw c.in_default-above_limit.is at (amount_row_lem c.args.n c.args.e c.args.groups.now c.args.links.now c.args.marks.now c.args.amounts.now c.first_above_limit-above_limit.result c.first_above_limit-above_limit.ensures)) (past (rw c.in_default-open.is at (closed_row_lem c.args.n c.args.e c.args.groups.now c.args.links.now c.args.marks.now c.args.amounts.now c.first_open-open.result c.first_open-open.ensures)) (past (whole_clear (some_dead_lem c.args.n c.args.e c.args.groups.now c.args.links.now c.args.marks.now c.args.amounts.now c.dead_sum-d.ensures c.if-d-eq0.false)) c.rule_faults.ensures)))
+returns c = past (rw c.in_default.is at (mark_row_lem c.args.n c.args.e c.args.groups.now c.args.links.now c.args.marks.now c.args.amounts.now c.first_bad_mark-bad_mark.result c.first_bad_mark-bad_mark.ensures)) (past (rw c.in_default-above_limit.is at (amount_row_lem c.args.n c.args.e c.args.groups.now c.args.links.now c.args.marks.now c.args.amounts.now c.first_above_limit-above_limit.result c.first_above_limit-above_limit.ensures)) (past (rw c.in_default-open.is at (closed_row_lem c.args.n c.args.e c.args.groups.now c.args.links.now c.args.marks.now c.args.amounts.now c.first_open-open.result c.first_open-open.ensures)) (past (whole_clear (some_dead_lem c.args.n c.args.e c.args.groups.now c.args.links.now c.args.marks.now c.args.amounts.now c.dead_sum-d.ensures (λ z. omega arith))) c.rule_faults.ensures)))

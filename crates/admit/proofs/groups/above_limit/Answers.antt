@@ -1,11 +1,7 @@
 -- `admit::groups::above_limit` meets its contract. The dead count decides, or the live count. Assumes nothing.
 use Rattle.admit.proofs.TestLaws.{second_count}
 use native.Mathlib.Omega.{arith}
-use mathlib.Core.Logic.{inl}
 use Rattle.admit.proofs.groups.above_limit.Goals as goal
 
-pub returns-then-group-gt-COUNT : goal.returns-then-group-gt-COUNT
-returns-then-group-gt-COUNT c = inl (omega arith)
-
 pub returns : goal.returns
-returns c = second_count c.group_of-group.ensures c.if-group-gt-COUNT.false
+returns c = second_count c.group_of-group.ensures (omega arith)

@@ -1,5 +1,5 @@
-use Rattle.checker.proofs.Looks.{mark_bad, mark_good}
-use Rattle.refusals.proofs.Looking.{before_first, before_next, found_here, found_none}
+use Rattle.checker.proofs.Looks.{mark_good}
+use Rattle.refusals.proofs.Looking.{before_first, before_next, found_none}
 use native.Mathlib.Omega.{arith}
 use Rattle.checker.proofs.claims.first_bad_mark.Goals as goal
 
@@ -9,11 +9,8 @@ loop-g-init c = before_first
 pub bounds-marks-g : goal.bounds-marks-g
 bounds-marks-g c = omega (arith, c.loop-g-test.true)
 
-pub returns-then-marks-g-gt1 : goal.returns-then-marks-g-gt1
-returns-then-marks-g-gt1 c = found_here c.loop-g-test.true c.loop-g.invariant (mark_bad c.if-marks-g-gt1.true)
-
 pub loop-g-preserved : goal.loop-g-preserved
-loop-g-preserved c = before_next c.loop-g.invariant (mark_good c.if-marks-g-gt1.false)
+loop-g-preserved c = before_next c.loop-g.invariant (mark_good (omega arith))
 
 pub returns : goal.returns
 returns c = found_none c.loop-g-test.false c.loop-g.invariant
