@@ -52,7 +52,18 @@ unfolding First
 reworded {m} {P} {Q} {v} f g a = at a.first
   where
     at : Given (whole m P) v ⊎ (Clear (whole m P) × (v ≡ fine)) → Answers (whole m Q ∷ []) v
-    at (inl x) = record { first = inl (record { lowest_place = x.lowest_place; lowest = record { below = x.lowest.below; fault = f x.lowest.fault; first = λ j l q. x.lowest.first j l (g q) }; is = x.is }) }
+    at (inl x) = record {
+      first = inl (record {
+        lowest_place = x.lowest_place;
+        lowest = record {
+          below = x.lowest.below;
+          fault = f x.lowest.fault;
+          first = λ j l q.
+              x.lowest.first j l (g q);
+        };
+        is = x.is;
+      });
+    }
     at (inr x) = record { first = inr (record { none = λ k l q. x.0.none k l (g q) }, x.1) }
 
 -- ---- the chain

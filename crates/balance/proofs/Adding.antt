@@ -65,7 +65,8 @@ module _ {ends : ℕ → ℕ} {a : Amounts} {list : List ℕ} where
   added_more {k} {p} {x} {list'} {list''} l w q z is =
       rw (is, q, z) (record { long = simp length-set w.long; at = λ g h. here g h (eqb g (ends k)) refl })
     where
-      here : (g : ℕ) → g < length list → (t : Bool) → eqb g (ends k) ≡ t → get_or (set list' (ends k) (get_or list' (ends k) 0 + a k)) g 0 ≡ get_or list g 0 + amounts_at ends a (k + 1) g
+      here : (g : ℕ) → g < length list → (t : Bool) → eqb g (ends k) ≡ t → get_or (set list' (ends k) (get_or list' (ends k) 0 + a k)) g 0 ≡ get_or list g 0 + amounts_at ends a
+          (k + 1) g
       here g h true e =
           let same : g ≡ ends k = eqb-true g (ends k) e in
           rw (same, get_or-set_same list' (ends k) (get_or list' (ends k) 0 + a k) 0 (omega (arith, w.long)))

@@ -49,7 +49,8 @@ module _ (n e : ℕ) (groups links marks amounts : List ℕ) where
         module _ (drain : List ℕ) (d : Drains (survey_of n e groups links) (weights (survey_of n e groups links) (marked_set marks)) (amounts_of amounts) (marked_set drain)) where
           largest_is : LargestSettled (survey_of n e groups links) (weights (survey_of n e groups links) (marked_set marks)) (amounts_of amounts) (outside (marked_set drain))
           unfolding survey_at
-          largest_is = drained_settled (survey_of n e groups links) (amounts_of amounts) (weights (survey_of n e groups links) (marked_set marks)) d (λ g l. omega (arith, level_at g l, b.credit_at g l, b.debit_at g l))
+          largest_is = drained_settled (survey_of n e groups links) (amounts_of amounts) (weights (survey_of n e groups links) (marked_set marks)) d
+              (λ g l. omega (arith, level_at g l, b.credit_at g l, b.debit_at g l))
 
         pub left_out_row : (r : Found) → LeftOutFound n e links marks amounts lacks r → Finds (not_largest (survey_of n e groups links) (marked_set marks) (amounts_of amounts)) r
         unfolding survey_at

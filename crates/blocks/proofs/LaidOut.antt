@@ -56,7 +56,8 @@ equal {x} {y} d = go (ℕ_discrete x y)
 pub clear_kind : (f : List ℕ) → Clear (bad_kind f) → (b : ℕ) → b < block_count f → kind_in f b ≡ kind_of (n_in f) b
 clear_kind f clear b m = equal (λ d. clear.none b m (λ c. d c.1))
 
-module _ {f : List ℕ} (length-clear : Clear (bad_length f)) (check-clear : Clear (bad_check f)) (count-clear : Clear (bad_block_count f)) (kind-clear : Clear (bad_kind f)) (unused-clear : Clear (bad_unused f)) where
+module _ {f : List ℕ} (length-clear : Clear (bad_length f)) (check-clear : Clear (bad_check f)) (count-clear : Clear (bad_block_count f)) (kind-clear : Clear (bad_kind f))
+    (unused-clear : Clear (bad_unused f)) where
   count : block_count f ≡ blocks_needed (n_in f) (e_in f)
   count = equal (count-clear.none 0 (omega arith))
 

@@ -83,7 +83,8 @@ module _ {f f' : List ℕ} {n e : ℕ} (l : Layout f n e) (l' : Layout f' n e) (
       go (no h) (no d) = at {v = content_words + 1} (omega arith) ((l.checks b m).second ∙ ap (λ (s : Sums). s.b) (same_sums b m) ∙ sym (l'.checks b m).second)
 
   pub same_layout : Bytes f → Bytes f' → f ≡ f'
-  same_layout small small' = ext_get_or 0 f f' (l.long ∙ sym l'.long) (λ i h. byte (i / block_bytes) (i % block_bytes / 4) (i % 4) i (omega arith) (omega (arith, l.long)) (omega arith) (omega arith))
+  same_layout small small' = ext_get_or 0 f f' (l.long ∙ sym l'.long)
+      (λ i h. byte (i / block_bytes) (i % block_bytes / 4) (i % 4) i (omega arith) (omega (arith, l.long)) (omega arith) (omega arith))
     where
       byte : (b w k i : ℕ) → i ≡ block_bytes * b + 4 * w + k → b < blocks_needed n e → w < content_words + 2 → k < 4 → get_or f i 0 ≡ get_or f' i 0
       byte b w k i p m c h =
@@ -94,10 +95,12 @@ pub same_file : {f f' : List ℕ} → Bytes f → Bytes f' → AdmittedFile f �
 same_file {f} {f'} small small' a a' same = same_layout (admitted_layout a) laid pairs ends small small'
   where
     n_same : n_in f ≡ n_in f'
-    n_same = sym (given_n (n_in f) (e_in f) f (in_blocks first_group_block) f (in_blocks (first_link_block (n_in f)))) ∙ ap (λ (s : Survey). s.n) same ∙ given_n (n_in f') (e_in f') f' (in_blocks first_group_block) f' (in_blocks (first_link_block (n_in f')))
+    n_same = sym (given_n (n_in f) (e_in f) f (in_blocks first_group_block) f (in_blocks (first_link_block (n_in f)))) ∙ ap (λ (s : Survey). s.n) same ∙ given_n (n_in f')
+        (e_in f') f' (in_blocks first_group_block) f' (in_blocks (first_link_block (n_in f')))
 
     e_same : e_in f ≡ e_in f'
-    e_same = sym (given_e (n_in f) (e_in f) f (in_blocks first_group_block) f (in_blocks (first_link_block (n_in f)))) ∙ ap (λ (s : Survey). s.e) same ∙ given_e (n_in f') (e_in f') f' (in_blocks first_group_block) f' (in_blocks (first_link_block (n_in f')))
+    e_same = sym (given_e (n_in f) (e_in f) f (in_blocks first_group_block) f (in_blocks (first_link_block (n_in f)))) ∙ ap (λ (s : Survey). s.e) same ∙ given_e (n_in f')
+        (e_in f') f' (in_blocks first_group_block) f' (in_blocks (first_link_block (n_in f')))
 
     laid : Layout f' (n_in f) (e_in f)
     laid = subst (λ (n : ℕ). Layout f' n (e_in f)) (sym n_same) (subst (λ (e : ℕ). Layout f' (n_in f') e) (sym e_same) (admitted_layout a'))

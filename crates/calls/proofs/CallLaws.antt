@@ -38,13 +38,15 @@ module _ (groups links marks amounts : List ℕ) where
 
   pub long_enough : LongEnough groups links marks amounts → OneShort (call_lists groups links marks amounts) → ⊥
   unfolding OneShort
-  long_enough w = ⊎_elim (λ h. omega (arith, w.groups_have)) (⊎_elim (λ h. omega (arith, w.links_have)) (⊎_elim (λ h. omega (arith, w.marks_have)) (⊎_elim (λ h. omega (arith, w.amounts_have)) (λ z. z))))
+  long_enough w = ⊎_elim (λ h. omega (arith, w.groups_have)) (⊎_elim (λ h. omega (arith, w.links_have))
+      (⊎_elim (λ h. omega (arith, w.marks_have)) (⊎_elim (λ h. omega (arith, w.amounts_have)) (λ z. z))))
 
   module _ (n e : ℕ) where
     pub call_refused : {r : Refusal} → OneShort (call_lists groups links marks amounts) → r ≡ refusal_whole 1 → Answers (chooser_faults n e groups links marks amounts) (refused r)
     call_refused h q = stop_whole h q
 
-    pub call_answered : {v : Verdict} → (OneShort (call_lists groups links marks amounts) → ⊥) → Answers (list_faults (survey_of n e groups links)) v → Answers (chooser_faults n e groups links marks amounts) v
+    pub call_answered : {v : Verdict} → (OneShort (call_lists groups links marks amounts) → ⊥) → Answers (list_faults (survey_of n e groups links)) v → Answers
+        (chooser_faults n e groups links marks amounts) v
     call_answered d a = past (whole_clear d) a
 
     -- what is clear of a call that is not refused

@@ -88,7 +88,8 @@ module _ {n e : ℕ} {groups links current₀ amounts₀ : List ℕ} (x : AllAsk
 
 -- ---- what begins it: all groups, no amounts
 
-pub all_ask : {n e : ℕ} {groups links marks amounts : List ℕ} → AdmittedCall n e groups links marks amounts → AllAsk n e groups links (replicate group_limit 1) (replicate (entry_bytes * link_limit) 0)
+pub all_ask : {n e : ℕ} {groups links marks amounts : List ℕ} → AdmittedCall n e groups links marks amounts → AllAsk n e groups links (replicate group_limit 1)
+    (replicate (entry_bytes * link_limit) 0)
 unfolding survey_at
 all_ask {n} {e} {groups} {links} x =
     record {
@@ -112,7 +113,9 @@ bit {x} h = at (ℕ_discrete x 0)
     at (yes z) = inl z
     at (no d) = inr (omega arith)
 
-module _ {n e : ℕ} {groups links marks amounts current₀ flowing₀ current flowing marks' amounts' : List ℕ} {r : ℕ} (x : AdmittedCall n e groups links marks amounts) (w : Ended n e groups links current₀ flowing₀ r current flowing) (m : PutFirst n (λ i. get_or current i 0) marks marks') (a : PutFirst (entry_bytes * e) (λ i. get_or flowing i 0) amounts amounts') where
+module _ {n e : ℕ} {groups links marks amounts current₀ flowing₀ current flowing marks' amounts' : List ℕ} {r : ℕ} (x : AdmittedCall n e groups links marks amounts)
+    (w : Ended n e groups links current₀ flowing₀ r current flowing) (m : PutFirst n (λ i. get_or current i 0) marks marks')
+    (a : PutFirst (entry_bytes * e) (λ i. get_or flowing i 0) amounts amounts') where
   same_marks : Same (survey_of n e groups links) (marked_set current) (marked_set marks')
   unfolding survey_at
   same_marks = record { at = copied_marks current m }

@@ -73,7 +73,9 @@ module _ {n e : ℕ} {groups links current amounts : List ℕ} (x : Listed n e g
 
 -- ---- weights of the current set
 
-module _ {n e d l : ℕ} {groups links current amounts plus₀ minus₀ plus minus : List ℕ} (x : Listed n e groups links current amounts) (is-d : d ≡ D (groups_of n groups) (marked_set current)) (is-l : l ≡ L (groups_of n groups) (marked_set current)) (put : WeightsPut n groups d l plus₀ minus₀ plus minus) where
+module _ {n e d l : ℕ} {groups links current amounts plus₀ minus₀ plus minus : List ℕ} (x : Listed n e groups links current amounts)
+    (is-d : d ≡ D (groups_of n groups) (marked_set current)) (is-l : l ≡ L (groups_of n groups) (marked_set current))
+    (put : WeightsPut n groups d l plus₀ minus₀ plus minus) where
   own : WeightsPut n groups (D (groups_of n groups) (marked_set current)) (L (groups_of n groups) (marked_set current)) plus₀ minus₀ plus minus
   own = rw (is-d, is-l) at put
 
@@ -149,5 +151,12 @@ module _ {n e d l : ℕ} {groups links current amounts plus₀ minus₀ plus min
                       amounts_long = h.amounts_long;
                     };
               };
-          round = record { heaviest = proves.heaviest; drains = proves.drains; dry = proves.dry; further = λ y. more_weighs (told more y t); last = λ z. none_weighs (told_not more z t) };
+          round = record {
+            heaviest = proves.heaviest;
+            drains = proves.drains;
+            dry = proves.dry;
+            further = λ y. more_weighs (told more y t);
+            last = λ z. none_weighs
+                (told_not more z t);
+          };
         }

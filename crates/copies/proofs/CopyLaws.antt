@@ -52,7 +52,8 @@ unfolding with_long_word
 written {l} {f} i j b h =
     record {
       long = length_with_long_word l i (long_word f j);
-      inside = λ k m. sets_at l (bytes_of 8 (long_word f j)) i k (rw (length_bytes 8 (long_word f j)) h) (rw (length_bytes 8 (long_word f j)) m) ∙ ap (λ (xs : List ℕ). get_or xs k 0) (ap (bytes_of 8) (long_number f j) ∙ number_again 8 b j) ∙ bytes_at_lem 8 f j k m;
+      inside = λ k m. sets_at l (bytes_of 8 (long_word f j)) i k (rw (length_bytes 8 (long_word f j)) h) (rw (length_bytes 8 (long_word f j)) m) ∙ ap
+          (λ (xs : List ℕ). get_or xs k 0) (ap (bytes_of 8) (long_number f j) ∙ number_again 8 b j) ∙ bytes_at_lem 8 f j k m;
       outside = with_long_word_outside l i (long_word f j);
     }
 

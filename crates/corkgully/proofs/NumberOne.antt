@@ -65,7 +65,8 @@ choose_number_one {n} {e} {groups} {links} {marks} {amounts} {x} {x'} {m} {m'} {
         subst (λ (j : ℕ). get_or a j 0 ≡ get_or a' j 0) place
         (long_word_bytes b b' (stands_at lent (i / entry_bytes)) (stands_at lent (i / entry_bytes)) (h (i / entry_bytes) (omega arith)) (i % entry_bytes) (omega arith))
 
-pub check_number_one : {n e : ℕ} {groups links marks amounts : List ℕ} {x x' : ℕ} → CheckNumber n e groups links marks amounts x → CheckNumber n e groups links marks amounts x' → x ≡ x'
+pub check_number_one : {n e : ℕ} {groups links marks amounts : List ℕ} {x x' : ℕ} → CheckNumber n e groups links marks amounts x → CheckNumber n e groups links marks amounts x'
+    → x ≡ x'
 check_number_one a b = a.is ∙ ap (λ (r : Judgement). judgement_number r) (checker_one a.says b.says) ∙ sym b.is
 
 -- ---- The answer is read back from its number: two answers with the same number are the same answer, whatever calls they answer. So no success has a

@@ -88,7 +88,8 @@ module _ {s : Survey} {w₀ w : List ℕ} {first top g k : ℕ} (x : Walking s w
   pub walk_top : Walks s w₀ first g → top ≤ s.n
   walk_top y = top_at_most (x.keeps y.c y.peels)
 
-  pub walk_next : {w' : List ℕ} {r : ℕ} → k < s.e → (s.link k).to < s.n → (s.link k).from ≡ g → Lowered (low_of w) (low_of w') (s.link k).to top r → Kept (high_of w) (high_of w') → length w' ≡ length w → Walking s w₀ w' first r g (k + 1)
+  pub walk_next : {w' : List ℕ} {r : ℕ} → k < s.e → (s.link k).to < s.n → (s.link k).from ≡ g → Lowered (low_of w) (low_of w') (s.link k).to top r → Kept (high_of w)
+      (high_of w') → length w' ≡ length w → Walking s w₀ w' first r g (k + 1)
   walk_next l b e lo high long =
       record {
         long = long ∙ x.long;

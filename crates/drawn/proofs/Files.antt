@@ -118,7 +118,10 @@ file_drawn {f} {gs} {ls} h =
 -- Such a file is admitted where its blocks are sound and the drawing is admitted.
 pub file_admitted : {f : List ℕ} {gs : List Group} {ls : List Link} → Holds f gs ls → AllClear (block_faults f) → Admitted (drawn gs ls) → AdmittedFile f
 unfolding AllClear
-file_admitted {f} h c a = record { clear = clear_both (block_faults f) (survey_faults (survey_in f)) c (subst (λ (s : Survey). AllClear (survey_faults s)) (sym (file_drawn h)) a.clear.1) }
+file_admitted {f} h c a = record {
+  clear = clear_both (block_faults f) (survey_faults (survey_in f)) c
+      (subst (λ (s : Survey). AllClear (survey_faults s)) (sym (file_drawn h)) a.clear.1);
+}
 
 -- ---- the files
 

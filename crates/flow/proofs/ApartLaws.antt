@@ -20,7 +20,8 @@ pub apart_more : {c : ℕ} {t₀ t order : List ℕ} → get_or order c 0 < leng
 apart_more {c} {t₀} {t} {order} room a =
     record {
       three = λ i h. there i h (eqb i c) refl;
-      each = set_by t (get_or order c 0) 3 (λ h v. (v ≡ get_or t₀ h 0) ⊎ ((i : ℕ) × (i < c + 1) × (get_or order i 0 ≡ h))) here (inr (c, omega arith, refl)) (λ h d. more (a.each h));
+      each = set_by t (get_or order c 0) 3 (λ h v. (v ≡ get_or t₀ h 0) ⊎ ((i : ℕ) × (i < c + 1) × (get_or order i 0 ≡ h))) here (inr (c, omega arith, refl))
+          (λ h d. more (a.each h));
       long = simp length-set a.long;
     }
   where
@@ -33,7 +34,8 @@ apart_more {c} {t₀} {t} {order} room a =
         let other : i ≡ c → ⊥ = eqb-false i c q in
         set_by t (get_or order c 0) 3 (λ j v. j ≡ get_or order i 0 → v ≡ 3) here (λ z. refl) (λ j d z. rw z (a.three i (omega arith))) (get_or order i 0) refl
 
-    more : {h : ℕ} → (get_or t h 0 ≡ get_or t₀ h 0) ⊎ ((i : ℕ) × (i < c) × (get_or order i 0 ≡ h)) → (get_or t h 0 ≡ get_or t₀ h 0) ⊎ ((i : ℕ) × (i < c + 1) × (get_or order i 0 ≡ h))
+    more : {h : ℕ} → (get_or t h 0 ≡ get_or t₀ h 0) ⊎ ((i : ℕ) × (i < c) × (get_or order i 0 ≡ h)) → (get_or t h 0 ≡ get_or t₀ h 0) ⊎
+        ((i : ℕ) × (i < c + 1) × (get_or order i 0 ≡ h))
     more (inl z) = inl z
     more (inr f) = inr (f.0, omega (arith, f.1), f.2)
 
@@ -43,7 +45,8 @@ module _ {n c c' : ℕ} {t order t' : List ℕ} (p : Placed n t order c') (w : c
   three_or_one : (j : ℕ) → j < c' → (get_or t' (get_or order j 0) 0 ≡ 1) ⊎ (get_or t' (get_or order j 0) 0 ≡ 3)
   three_or_one j l = go (a.each (get_or order j 0))
     where
-      go : (get_or t' (get_or order j 0) 0 ≡ get_or t (get_or order j 0) 0) ⊎ ((i : ℕ) × (i < c) × (get_or order i 0 ≡ get_or order j 0)) → (get_or t' (get_or order j 0) 0 ≡ 1) ⊎ (get_or t' (get_or order j 0) 0 ≡ 3)
+      go : (get_or t' (get_or order j 0) 0 ≡ get_or t (get_or order j 0) 0) ⊎ ((i : ℕ) × (i < c) × (get_or order i 0 ≡ get_or order j 0)) →
+          (get_or t' (get_or order j 0) 0 ≡ 1) ⊎ (get_or t' (get_or order j 0) 0 ≡ 3)
       go (inl z) = inl (z ∙ p.marked j l)
       go (inr f) = inr (rw f.2 at (a.three f.0 f.1))
 

@@ -77,7 +77,12 @@ module _ {s : Survey} (w : Weights) (x : Amounts) (i : Inside s) (r : Ranking s)
         cut_bound (r.rank g + 1),
         sum_le s.e (λ k. only (eqb (s.link k).from g) (x k))
             (λ k. only (low r (r.rank g + 1) (s.link k).from && not (low r (r.rank g + 1) (s.link k).to)) (x k))
-            (λ k l. crossing (eqb (s.link k).from g) (low r (r.rank g + 1) (s.link k).from) (low r (r.rank g + 1) (s.link k).to) (x k) (λ e. let at = eqb-true (s.link k).from g e in (rw at (lt-ltb (r.rank g) (r.rank g + 1) (omega arith)), le-ltb (r.rank (s.link k).to) (r.rank g + 1) (omega (arith, rw at at (r.rises k l)))))),
+            (λ k l. crossing (eqb (s.link k).from g) (low r (r.rank g + 1) (s.link k).from) (low r (r.rank g + 1) (s.link k).to) (x k)
+            (λ e. let at = eqb-true (s.link k).from g e in (
+              rw at (lt-ltb (r.rank g) (r.rank g + 1) (omega arith)),
+              le-ltb (r.rank (s.link k).to) (r.rank g + 1)
+                  (omega (arith, rw at at (r.rises k l))),
+            ))),
       )
 
   -- the amounts on all links to g
@@ -89,7 +94,8 @@ module _ {s : Survey} (w : Weights) (x : Amounts) (i : Inside s) (r : Ranking s)
         cut_bound (r.rank g),
         sum_le s.e (λ k. only (eqb (s.link k).to g) (x k))
             (λ k. only (low r (r.rank g) (s.link k).from && not (low r (r.rank g) (s.link k).to)) (x k))
-            (λ k l. crossing (eqb (s.link k).to g) (low r (r.rank g) (s.link k).from) (low r (r.rank g) (s.link k).to) (x k) (λ e. let at = eqb-true (s.link k).to g e in (lt-ltb _ _ (rw at at (r.rises k l)), rw at (le-ltb (r.rank g) (r.rank g) (omega arith))))),
+            (λ k l. crossing (eqb (s.link k).to g) (low r (r.rank g) (s.link k).from) (low r (r.rank g) (s.link k).to) (x k)
+            (λ e. let at = eqb-true (s.link k).to g e in (lt-ltb _ _ (rw at at (r.rises k l)), rw at (le-ltb (r.rank g) (r.rank g) (omega arith))))),
       )
 
   -- one amount

@@ -118,7 +118,8 @@ pub other_head : {g : ℕ} → g < group_limit → Aside 0 (head_at 1 g)
 other_head l = record { no_head = λ h k z. omega arith; no_next = λ h k z. omega arith }
 
 -- the chains of the from stay as those of the to are built
-pub index_stays : {ends : List ℕ} {n e : ℕ} {chains chains' : List ℕ} → n ≤ group_limit → e ≤ link_limit → Index n e 0 (end_in ends 0) chains → Chained ends n e 1 chains chains' → Index n e 0 (end_in ends 0) chains'
+pub index_stays : {ends : List ℕ} {n e : ℕ} {chains chains' : List ℕ} → n ≤ group_limit → e ≤ link_limit → Index n e 0 (end_in ends 0) chains → Chained ends n e 1 chains chains'
+    → Index n e 0 (end_in ends 0) chains'
 index_stays few many x c =
     record {
       heads = λ g l. rw (c.else (head_at 0 g) (record { no_head = λ h k z. omega arith; no_next = λ h k z. omega arith })) (x.heads g l);

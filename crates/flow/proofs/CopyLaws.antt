@@ -37,7 +37,8 @@ pub record Alike (s s' : Survey) (x x' : Amounts) : Type 0 where
   pub amount : (k : ℕ) → k < s.e → x k ≡ x' k
 
 pub given_alike :
-    {s : Survey} {n e : ℕ} {links ends₀ ends : List ℕ} {x x' : Amounts} → Given s n e links → Copied e links ends₀ ends → ((k : ℕ) → k < e → x k ≡ x' k) → Alike s (copied n e ends) x x'
+    {s : Survey} {n e : ℕ} {links ends₀ ends : List ℕ} {x x' : Amounts} → Given s n e links → Copied e links ends₀ ends → ((k : ℕ) → k < e → x k ≡ x' k) → Alike s
+    (copied n e ends) x x'
 given_alike v o same =
     record {
       groups = sym v.groups;
@@ -156,10 +157,12 @@ copied_more {k} {p} {q} {links} {ends₀} {ends} room zp zq o =
     first i h true r =
         let same : i ≡ k = eqb-true i k r in
         let at : 2 * i + 0 ≡ 2 * k = omega arith in
-        rw at (get_or-set_other (set ends (2 * k) p) (2 * k + 1) (2 * k) q 0 (λ z. omega arith) ∙ get_or-set_same ends (2 * k) p 0 (omega (arith, o.long)) ∙ zp ∙ ap (end_of links 0) (sym same))
+        rw at (get_or-set_other (set ends (2 * k) p) (2 * k + 1) (2 * k) q 0 (λ z. omega arith) ∙ get_or-set_same ends (2 * k) p 0 (omega (arith, o.long)) ∙ zp ∙ ap
+        (end_of links 0) (sym same))
     first i h false r =
         let other : i ≡ k → ⊥ = eqb-false i k r in
-        get_or-set_other (set ends (2 * k) p) (2 * k + 1) (2 * i + 0) q 0 (λ z. omega arith) ∙ get_or-set_other ends (2 * k) (2 * i + 0) p 0 (λ z. omega arith) ∙ o.from i (omega arith)
+        get_or-set_other (set ends (2 * k) p) (2 * k + 1) (2 * i + 0) q 0 (λ z. omega arith) ∙ get_or-set_other ends (2 * k) (2 * i + 0) p 0 (λ z. omega arith) ∙ o.from i
+        (omega arith)
 
     second : (i : ℕ) → i < k + 1 → (t : Bool) → eqb i k ≡ t → get_or (set (set ends (2 * k) p) (2 * k + 1) q) (2 * i + 1) 0 ≡ end_of links 4 i
     second i h true r =
@@ -168,7 +171,8 @@ copied_more {k} {p} {q} {links} {ends₀} {ends} room zp zq o =
         rw at (get_or-set_same (set ends (2 * k) p) (2 * k + 1) q 0 (simp length-set (omega (arith, o.long))) ∙ zq ∙ ap (end_of links 4) (sym same))
     second i h false r =
         let other : i ≡ k → ⊥ = eqb-false i k r in
-        get_or-set_other (set ends (2 * k) p) (2 * k + 1) (2 * i + 1) q 0 (λ z. omega arith) ∙ get_or-set_other ends (2 * k) (2 * i + 1) p 0 (λ z. omega arith) ∙ o.to i (omega arith)
+        get_or-set_other (set ends (2 * k) p) (2 * k + 1) (2 * i + 1) q 0 (λ z. omega arith) ∙ get_or-set_other ends (2 * k) (2 * i + 1) p 0 (λ z. omega arith) ∙ o.to i
+        (omega arith)
 
 pub taken_none : (amounts x : List ℕ) → Taken 0 amounts x x
 taken_none amounts x = record { at = λ k h. absurd (omega arith); rest = λ i h. refl; long = refl }

@@ -191,7 +191,8 @@ module _ {n e end g : ℕ} {ends chains amounts₀ ex₀ la₀ ways₀ t : List 
                 let other : j ≡ k → ⊥ = eqb-false j k v in
                 after.first j (omega (arith, ltb-false j k u)) h (x.hit ∙ sym (w.hit l))
 
-        step : {amounts' ex' la' ways' : List ℕ} → Offered k g q (least_for end) ends amounts ex la ways t amounts' ex' la' ways' → Step n e k end g q ends amounts ex la ways t amounts' ex' la' ways'
+        step : {amounts' ex' la' ways' : List ℕ} → Offered k g q (least_for end) ends amounts ex la ways t amounts' ex' la' ways'
+            → Step n e k end g q ends amounts ex la ways t amounts' ex' la' ways'
         step (kept shut) = stays shut
         step (took m least s d) = let x = sends_sent course l (way least) m s in goes (took_ran x d) x.rises (x.passed pos)
 
@@ -205,17 +206,21 @@ module _ {n e end g : ℕ} {ends chains amounts₀ ex₀ la₀ ways₀ t : List 
         go (some r up x) (goes r' up' x') = some (ran_on r r') (λ j h. omega (arith, up j h, up' j h)) (passed_on t r.flowed r'.flowed x x')
 
   -- it ends with nothing left, or with the last link
-  pub spill_spent : {amounts ex la ways : List ℕ} {k : ℕ} → get_or ex g 0 ≡ 0 → Spilling n e end g ends amounts₀ ex₀ la₀ ways₀ t amounts ex la ways k → Spilled n e e end g ends amounts₀ ex₀ la₀ ways₀ t amounts ex la ways
+  pub spill_spent : {amounts ex la ways : List ℕ} {k : ℕ} → get_or ex g 0 ≡ 0 → Spilling n e end g ends amounts₀ ex₀ la₀ ways₀ t amounts ex la ways k
+      → Spilled n e e end g ends amounts₀ ex₀ la₀ ways₀ t amounts ex la ways
   spill_spent spent w = go spent w.spilled
     where
-      go : {amounts ex la ways : List ℕ} {k : ℕ} → get_or ex g 0 ≡ 0 → Spilled n e k end g ends amounts₀ ex₀ la₀ ways₀ t amounts ex la ways → Spilled n e e end g ends amounts₀ ex₀ la₀ ways₀ t amounts ex la ways
+      go : {amounts ex la ways : List ℕ} {k : ℕ} → get_or ex g 0 ≡ 0 → Spilled n e k end g ends amounts₀ ex₀ la₀ ways₀ t amounts ex la ways
+          → Spilled n e e end g ends amounts₀ ex₀ la₀ ways₀ t amounts ex la ways
       go nothing (none dry) = none (λ pos. absurd (omega arith))
       go nothing (some r up x) = some r up x
 
-  pub spill_done : {amounts ex la ways : List ℕ} {k : ℕ} → e ≤ k → Spilling n e end g ends amounts₀ ex₀ la₀ ways₀ t amounts ex la ways k → Spilled n e e end g ends amounts₀ ex₀ la₀ ways₀ t amounts ex la ways
+  pub spill_done : {amounts ex la ways : List ℕ} {k : ℕ} → e ≤ k → Spilling n e end g ends amounts₀ ex₀ la₀ ways₀ t amounts ex la ways k
+      → Spilled n e e end g ends amounts₀ ex₀ la₀ ways₀ t amounts ex la ways
   spill_done h w = go h w.spilled
     where
-      go : {amounts ex la ways : List ℕ} {k : ℕ} → e ≤ k → Spilled n e k end g ends amounts₀ ex₀ la₀ ways₀ t amounts ex la ways → Spilled n e e end g ends amounts₀ ex₀ la₀ ways₀ t amounts ex la ways
+      go : {amounts ex la ways : List ℕ} {k : ℕ} → e ≤ k → Spilled n e k end g ends amounts₀ ex₀ la₀ ways₀ t amounts ex la ways
+          → Spilled n e e end g ends amounts₀ ex₀ la₀ ways₀ t amounts ex la ways
       go last (none dry) = none (λ pos j l. dry pos j (omega arith))
       go last (some r up x) = some r up x
 
@@ -249,6 +254,7 @@ turned_one (rests z) = omega arith
 turned_one (sent f up passed) = omega arith
 
 pub turned_ran :
-    {n e g r : ℕ} {ends amounts ex la ways t amounts' ex' la' ways' : List ℕ} → Turned n e g ends amounts ex la ways t amounts' ex' la' ways' r → Ran n e ends amounts ex la ways amounts' ex' la' ways'
+    {n e g r : ℕ} {ends amounts ex la ways t amounts' ex' la' ways' : List ℕ} → Turned n e g ends amounts ex la ways t amounts' ex' la' ways' r
+    → Ran n e ends amounts ex la ways amounts' ex' la' ways'
 turned_ran (rests z) = ran_none
 turned_ran (sent f up passed) = f

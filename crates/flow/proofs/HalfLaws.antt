@@ -25,10 +25,12 @@ pub halved_more :
 halved_more {n} {a} {b} {plus} {minus} {p} {m} lp lm h x y =
     record {
       above =
-          λ g. set_by p n a (λ g v. g < n + 1 → v ≡ get_or plus g 0 - get_or minus g 0) (omega (arith, h.plus_long)) (λ q. omega (arith, h.plus_rest n (omega arith), h.minus_rest n (omega arith)))
+          λ g. set_by p n a (λ g v. g < n + 1 → v ≡ get_or plus g 0 - get_or minus g 0) (omega (arith, h.plus_long))
+          (λ q. omega (arith, h.plus_rest n (omega arith), h.minus_rest n (omega arith)))
           (λ j d q. h.above j (omega arith)) g;
       below =
-          λ g. set_by m n b (λ g v. g < n + 1 → v ≡ get_or minus g 0 - get_or plus g 0) (omega (arith, h.minus_long)) (λ q. omega (arith, h.plus_rest n (omega arith), h.minus_rest n (omega arith)))
+          λ g. set_by m n b (λ g v. g < n + 1 → v ≡ get_or minus g 0 - get_or plus g 0) (omega (arith, h.minus_long))
+          (λ q. omega (arith, h.plus_rest n (omega arith), h.minus_rest n (omega arith)))
           (λ j d q. h.below j (omega arith)) g;
       plus_rest = λ g q. get_or-set_other p n g a 0 (λ z. omega arith) ∙ h.plus_rest g (omega arith);
       minus_rest = λ g q. get_or-set_other m n g b 0 (λ z. omega arith) ∙ h.minus_rest g (omega arith);
@@ -42,7 +44,8 @@ flipped_none t = record { at = λ g h. absurd (omega arith); rest = λ g h. refl
 pub flipped_more : {n v : ℕ} {t₀ t : List ℕ} → n < length t₀ → Flipped n t₀ t → v ≡ flipped (get_or t n 0) → Flipped (n + 1) t₀ (set t n v)
 flipped_more {n} {v} {t₀} {t} l f x =
     record {
-      at = λ g. set_by t n v (λ g v. g < n + 1 → v ≡ flipped (get_or t₀ g 0)) (omega (arith, f.long)) (λ q. x ∙ ap flipped (f.rest n (omega arith))) (λ j d q. f.at j (omega arith)) g;
+      at = λ g. set_by t n v (λ g v. g < n + 1 → v ≡ flipped (get_or t₀ g 0)) (omega (arith, f.long)) (λ q. x ∙ ap flipped (f.rest n (omega arith)))
+          (λ j d q. f.at j (omega arith)) g;
       rest = λ g q. get_or-set_other t n g v 0 (λ z. omega arith) ∙ f.rest g (omega arith);
       long = simp length-set f.long;
     }

@@ -89,7 +89,8 @@ blank_amounts = replicate link_limit 0
 pub heavy_copyable : {n e : ℕ} {links plus minus marks amounts : List ℕ} → Weighable n e links plus minus marks amounts → Copyable e links blank_ends
 heavy_copyable c = net_copyable c.net (omega (arith, c.net.few_links, length-replicate {A = ℕ} (2 * link_limit) 0))
 
-module _ {n e : ℕ} {links plus minus marks amounts ends p m : List ℕ} (c : Weighable n e links plus minus marks amounts) (o : Copied e links blank_ends ends) (h : Halved n plus minus p m) where
+module _ {n e : ℕ} {links plus minus marks amounts ends p m : List ℕ} (c : Weighable n e links plus minus marks amounts) (o : Copied e links blank_ends ends)
+    (h : Halved n plus minus p m) where
   none_yet : (k : ℕ) → k < e → get_or blank_amounts k 0 ≡ 0
   none_yet k l = get_or-replicate link_limit k 0 0 (omega (arith, c.net.few_links))
 

@@ -77,7 +77,8 @@ put_lowered : (s : Survey) (x : Amounts) (k d : ℕ) → d ≤ x k → Raised s 
 put_lowered s x k d h = record { at = omega (arith, put_at x k (x k - d)); else = λ i other. sym (put_else x k (x k - d) i other) }
 
 module _ {n e : ℕ} {ends amounts ex la : List ℕ} (c : Course n e ends amounts ex la) {k : ℕ} (l : k < e) where
-  movable : {x' : Amounts} {g p d : ℕ} → Shifts (copied n e ends) c.safe.weights (flowing amounts) x' g p d → (p ≡ g → ⊥) → g < n → p < n → d ≤ get_or ex g 0 → Movable k g p d amounts ex la
+  movable : {x' : Amounts} {g p d : ℕ} → Shifts (copied n e ends) c.safe.weights (flowing amounts) x' g p d → (p ≡ g → ⊥) → g < n → p < n → d ≤ get_or ex g 0
+      → Movable k g p d amounts ex la
   movable m other gn pn has =
       record {
         apart = other;
@@ -114,7 +115,8 @@ module _ {n e : ℕ} {ends amounts ex la : List ℕ} (c : Course n e ends amount
       raises : end_in ends 1 k ≡ g → (d : ℕ) → Shifts (copied n e ends) c.safe.weights (flowing amounts) (put (flowing amounts) k (flowing amounts k + d)) g (end_in ends 0 k) d
       raises to d = paid_shifts c.safe.weights l (λ z. other z to) to refl (put_raised (copied n e ends) (flowing amounts) k d)
 
-      lowers : end_in ends 0 k ≡ g → (d : ℕ) → d ≤ flowing amounts k → Shifts (copied n e ends) c.safe.weights (flowing amounts) (put (flowing amounts) k (flowing amounts k - d)) g (end_in ends 1 k) d
+      lowers : end_in ends 0 k ≡ g → (d : ℕ) → d ≤ flowing amounts k → Shifts (copied n e ends) c.safe.weights (flowing amounts)
+          (put (flowing amounts) k (flowing amounts k - d)) g (end_in ends 1 k) d
       lowers from d low = gave_shifts c.safe.weights l (other from) from refl (put_lowered (copied n e ends) (flowing amounts) k d low)
 
       fits : Way (copied n e ends) (flowing amounts) k g p → end_in ends 1 k ≡ g → flowing amounts k + get_or ex g 0 < 2 ^ 64
@@ -124,7 +126,8 @@ module _ {n e : ℕ} {ends amounts ex la : List ℕ} (c : Course n e ends amount
       paying : Way (copied n e ends) (flowing amounts) k g p → end_in ends 1 k ≡ g → (d : ℕ) → d ≤ get_or ex g 0 → Movable k g (end_in ends 0 k) d amounts ex la
       paying v to d has = movable (raises to d) (λ z. other z to) (below v) (c.net.from k l) has
 
-      giving : Way (copied n e ends) (flowing amounts) k g p → (end_in ends 1 k ≡ g → ⊥) → (d : ℕ) → d ≤ get_or ex g 0 → d ≤ flowing amounts k → Movable k g (end_in ends 1 k) d amounts ex la
+      giving : Way (copied n e ends) (flowing amounts) k g p → (end_in ends 1 k ≡ g → ⊥) → (d : ℕ) → d ≤ get_or ex g 0 → d ≤ flowing amounts k → Movable k g
+          (end_in ends 1 k) d amounts ex la
       giving (pays to from) not-to d has low = absurd (not-to to)
       giving (gives_back from to positive) not-to d has low = movable (lowers from d low) (other from) (below (gives_back from to positive)) (c.net.to k l) has
 
@@ -155,7 +158,8 @@ pub most_taken : {mark lack x d : ℕ} → Takes mark lack x d → d ≤ x
 most_taken (free other z) = omega arith
 most_taken (capped three low) = low.first
 
-module _ {n e k g p d y : ℕ} {ends amounts ex la amounts' ex' la' : List ℕ} (c : Course n e ends amounts ex la) (l : k < e) (m : Moves k g p d y amounts ex la amounts' ex' la') (other : p ≡ g → ⊥) (gn : g < n) (pn : p < n) (has : d ≤ get_or ex g 0) where
+module _ {n e k g p d y : ℕ} {ends amounts ex la amounts' ex' la' : List ℕ} (c : Course n e ends amounts ex la) (l : k < e) (m : Moves k g p d y amounts ex la amounts' ex' la')
+    (other : p ≡ g → ⊥) (gn : g < n) (pn : p < n) (has : d ≤ get_or ex g 0) where
   new_amount : flowing amounts' k ≡ y
   new_amount = rw m.amount (get_or-set_same amounts k y 0 (omega (arith, c.amounts_long)))
 
@@ -190,7 +194,8 @@ module _ {n e k g p d y : ℕ} {ends amounts ex la amounts' ex' la' : List ℕ} 
 
       go : 0 < d → (b : Bool) → ltb 0 (get_or la p 0) ≡ b → Passed n la ex' la' t
       go some true q =
-          fallen (sum_lt n (λ h. get_or la' h 0) (λ h. get_or la h 0) (λ h b. moves_falls h) p pn (omega (arith, ltb-true 0 (get_or la p 0) q, moved_lack m other (omega (arith, c.la_long)))))
+          fallen (sum_lt n (λ h. get_or la' h 0) (λ h. get_or la h 0) (λ h b. moves_falls h) p pn
+          (omega (arith, ltb-true 0 (get_or la p 0) q, moved_lack m other (omega (arith, c.la_long)))))
       go some false q =
           let none = ltb-false 0 (get_or la p 0) q in
           onward (λ h. level h none (eqb h p) refl) p pn mark (omega (arith, moved_receiver m other (omega (arith, c.ex_long))))

@@ -53,7 +53,8 @@ bit {u} h = go (eqb u 1) refl
         let none : u ≡ 0 = omega arith in
         rw none
 
-module _ {n e c : ℕ} {ends chains amounts ex la ways t₀ order₀ t₁ order₁ : List ℕ} (p : Wavable n e ends chains amounts ex la ways t₀ order₀) (b : Begun n la t₀ order₀ t₁ order₁ c) where
+module _ {n e c : ℕ} {ends chains amounts ex la ways t₀ order₀ t₁ order₁ : List ℕ} (p : Wavable n e ends chains amounts ex la ways t₀ order₀)
+    (b : Begun n la t₀ order₀ t₁ order₁ c) where
   pub wave_growable : Growable n ways t₁ order₁ c
   wave_growable =
       ways_growable p.ask.course.net p.ask.rows.right p.ask.rows.long b.placed (omega (arith, b.t_long, p.ask.t_long))
@@ -152,7 +153,8 @@ ask_after p w =
 -- ---- with what the waves go by
 
 module _ {n e : ℕ} {ends amounts ex la t : List ℕ} (p : WavesStart n e ends amounts ex la t) where
-  pub settle_chainable : {end : ℕ} {chains : List ℕ} → (end ≡ 0) ⊎ (end ≡ 1) → next_at 2 0 ≤ length chains → ((g : ℕ) → g < n → get_or chains (head_at end g) 0 ≡ e) → Chainable ends n e end chains
+  pub settle_chainable : {end : ℕ} {chains : List ℕ} → (end ≡ 0) ⊎ (end ≡ 1) → next_at 2 0 ≤ length chains → ((g : ℕ) → g < n → get_or chains (head_at end g) 0 ≡ e)
+      → Chainable ends n e end chains
   settle_chainable {end} which long empty =
       record {
         few_groups = p.course.net.few_groups;
@@ -169,7 +171,8 @@ module _ {n e : ℕ} {ends amounts ex la t : List ℕ} (p : WavesStart n e ends 
     pub settle_empty : ((i : ℕ) → i < next_at 0 0 → get_or chains₀ i 0 ≡ e) → (g : ℕ) → g < n → get_or chains₁ (head_at 1 g) 0 ≡ e
     settle_empty empty g l = first.else (head_at 1 g) (other_head (omega (arith, p.course.net.few_groups))) ∙ empty (head_at 1 g) (omega (arith, p.course.net.few_groups))
 
-    pub settle_ask : {chains ways₀ ways : List ℕ} → 2 * n ≤ length ways₀ → WaysFound n e ends amounts ways₀ ways → Chained ends n e 1 chains₁ chains → WavesAsk n e ends chains amounts ex la ways t
+    pub settle_ask : {chains ways₀ ways : List ℕ} → 2 * n ≤ length ways₀ → WaysFound n e ends amounts ways₀ ways → Chained ends n e 1 chains₁ chains
+        → WavesAsk n e ends chains amounts ex la ways t
     settle_ask room f second =
         record {
           course = p.course;
@@ -179,5 +182,6 @@ module _ {n e : ℕ} {ends amounts ex la t : List ℕ} (p : WavesStart n e ends 
           t_long = p.t_long;
         }
 
-pub settled : {n e : ℕ} {ends amounts ex la ways t amounts' ex' la' ways' t' : List ℕ} → WavedAll n e ends amounts ex la ways t amounts' ex' la' ways' t' → WavesEnd n e ends amounts ex la t amounts' ex' la' t'
+pub settled : {n e : ℕ} {ends amounts ex la ways t amounts' ex' la' ways' t' : List ℕ} → WavedAll n e ends amounts ex la ways t amounts' ex' la' ways' t'
+    → WavesEnd n e ends amounts ex la t amounts' ex' la' t'
 settled w = record { flowed = w.waved.ran.flowed; rest = w.waved.rest; long = w.waved.long; done = w.done }

@@ -49,7 +49,8 @@ passed_ahead {n} t order i below room a = record { at = λ h l m. go h l m (eqb 
 
 -- How far it went: nobody has sent yet; or a lack has fallen; or no lack has changed, and a group that is still to come has an excess.
 pub data Went (n : ℕ) (amounts₀ ex₀ la₀ amounts ex la order : List ℕ) (count i r : ℕ) : Type 0 where
-  idle : r ≡ 0 → amounts ≡ amounts₀ → ex ≡ ex₀ → la ≡ la₀ → ((j : ℕ) → i ≤ j → j < count → get_or ex₀ (get_or order j 0) 0 ≡ 0) → Went n amounts₀ ex₀ la₀ amounts ex la order count i r
+  idle : r ≡ 0 → amounts ≡ amounts₀ → ex ≡ ex₀ → la ≡ la₀ → ((j : ℕ) → i ≤ j → j < count → get_or ex₀ (get_or order j 0) 0 ≡ 0)
+      → Went n amounts₀ ex₀ la₀ amounts ex la order count i r
   fell : 0 < r → lacks n la < lacks n la₀ → Went n amounts₀ ex₀ la₀ amounts ex la order count i r
   level : 0 < r → ((h : ℕ) → get_or la h 0 ≡ get_or la₀ h 0) → (j : ℕ) → j < i → 0 < get_or ex (get_or order j 0) 0 → Went n amounts₀ ex₀ la₀ amounts ex la order count i r
 
@@ -79,7 +80,8 @@ module _ {n e started count : ℕ} {ends chains amounts₀ ex₀ la₀ ways₀ t
         went = idle refl refl refl refl (λ j a b. absurd (omega arith));
       }
 
-  module _ {amounts ex la ways t : List ℕ} {r m i : ℕ} (w : Pouring n e ends amounts₀ ex₀ la₀ ways₀ t₀ order started count amounts ex la ways t r m) (at : m ≡ i + 1) (on : started ≤ i) where
+  module _ {amounts ex la ways t : List ℕ} {r m i : ℕ} (w : Pouring n e ends amounts₀ ex₀ la₀ ways₀ t₀ order started count amounts ex la ways t r m) (at : m ≡ i + 1)
+      (on : started ≤ i) where
     within : i < count
     within = omega (arith, w.within)
 
@@ -130,7 +132,8 @@ module _ {n e started count : ℕ} {ends chains amounts₀ ex₀ la₀ ways₀ t
     ahead : Ahead n (set t (get_or order i 0) 2) order i
     ahead = passed_ahead t order i (p.group i within) room (rw at at w.ahead)
 
-    went_after : {amounts' ex' la' ways' : List ℕ} {r' : ℕ} → Turned n e (get_or order i 0) ends amounts ex la ways (set t (get_or order i 0) 2) amounts' ex' la' ways' r' → Went n amounts₀ ex₀ la₀ amounts' ex' la' order count i (r + r')
+    went_after : {amounts' ex' la' ways' : List ℕ} {r' : ℕ} → Turned n e (get_or order i 0) ends amounts ex la ways (set t (get_or order i 0) 2) amounts' ex' la' ways' r'
+        → Went n amounts₀ ex₀ la₀ amounts' ex' la' order count i (r + r')
     went_after {r' = r'} (rests z) = go w.went
       where
         go : Went n amounts₀ ex₀ la₀ amounts ex la order count m r → Went n amounts₀ ex₀ la₀ amounts ex la order count i (r + 0)
@@ -158,7 +161,8 @@ module _ {n e started count : ℕ} {ends chains amounts₀ ex₀ la₀ ways₀ t
         gone h l m z =
             sum_lt n (λ j. get_or la' j 0) (λ j. get_or la₀ j 0) (λ j b. (ran_on w.ran f).flowed.falls j) h l (omega (arith, began_after h l m))
 
-        go : Went n amounts₀ ex₀ la₀ amounts ex la order count m r → Passed n la ex' la' (set t (get_or order i 0) 2) → Went n amounts₀ ex₀ la₀ amounts' ex' la' order count i (r + 1)
+        go : Went n amounts₀ ex₀ la₀ amounts ex la order count m r → Passed n la ex' la' (set t (get_or order i 0) 2) → Went n amounts₀ ex₀ la₀ amounts' ex' la' order count i
+            (r + 1)
         go v (fallen lower) = fell (omega arith) (omega (arith, lacks_fall w.ran.flowed))
         go v (full h l m z) = fell (omega arith) (gone h l m z)
         go (idle a b c d dry) (onward same h l m x) = come (omega arith) (λ j. same j ∙ ap (λ y. get_or y j 0) d) h l m x
@@ -182,7 +186,8 @@ module _ {n e started count : ℕ} {ends chains amounts₀ ex₀ la₀ ways₀ t
         }
       where
         hops :
-            {amounts' ex' la' ways' : List ℕ} {r' : ℕ} → Turned n e (get_or order i 0) ends amounts ex la ways (set t (get_or order i 0) 2) amounts' ex' la' ways' r' → (j : ℕ) → started ≤ j → j < i
+            {amounts' ex' la' ways' : List ℕ} {r' : ℕ} → Turned n e (get_or order i 0) ends amounts ex la ways (set t (get_or order i 0) 2) amounts' ex' la' ways' r' → (j : ℕ)
+            → started ≤ j → j < i
             → Hop (copied n e ends) (flowing amounts') order j
         hops (rests z) j a b = w.hops j a (omega arith)
         hops {amounts'} (sent f up passed) j a b = hops_after amounts' up j a b

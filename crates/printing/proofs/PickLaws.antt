@@ -53,7 +53,8 @@ printed {f} {before} {after} {text} {r} w p =
 
 -- ---- what the chooser says of an admitted survey
 
-not_faulty : {n e : ℕ} {groups links out : List ℕ} → ReadSurvey n e groups links out → (marks amounts : List ℕ) → length marks ≡ 128 → length amounts ≡ 8_192 → Answers (chooser_faults n e groups links marks amounts) fine
+not_faulty : {n e : ℕ} {groups links out : List ℕ} → ReadSurvey n e groups links out → (marks amounts : List ℕ) → length marks ≡ 128 → length amounts ≡ 8_192 → Answers
+    (chooser_faults n e groups links marks amounts) fine
 not_faulty {n} {e} {groups} {links} a marks amounts m w =
     call_answered groups links marks amounts n e
     (long_enough groups links marks amounts (record {

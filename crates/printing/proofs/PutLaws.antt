@@ -59,17 +59,20 @@ put_then {before} {x} {y} {mid} {after} {at} {r} {r'} p q =
     }
 
 -- the bytes of a text so far, and one more
-pub put_more : (before text after : List ℕ) (at i : ℕ) → i < length text → after ≡ written before at (take i text) → set after (at + i) (get_or text i 0) ≡ written before at (take (i + 1) text)
+pub put_more : (before text after : List ℕ) (at i : ℕ) → i < length text → after ≡ written before at (take i text) → set after (at + i) (get_or text i 0) ≡ written before at
+    (take (i + 1) text)
 put_more before text after at i h e =
     rw (e, add-one i, take-suc text i 0 h)
-    (ap (λ (j : ℕ). set (written before at (take i text)) (at + j) (get_or text i 0)) (sym (length-take-le i text (omega arith))) ∙ written_next before at (take i text) (get_or text i 0))
+    (ap (λ (j : ℕ). set (written before at (take i text)) (at + j) (get_or text i 0)) (sym (length-take-le i text (omega arith))) ∙ written_next before at (take i text)
+    (get_or text i 0))
 
 -- ---- a number in decimal: its digit, or its tenth and then its last digit
 
 pub put_digit : (before : List ℕ) (at x : ℕ) → at < length before → x < 10 → Put before at (decimal x) (at + 1) (set before at (48 + x))
 put_digit before at x b h = rw (decimal_small x h) (record { room = omega arith; end = refl; is = written_byte before at (digit x) })
 
-pub put_last : {before after : List ℕ} {at r : ℕ} (x : ℕ) → 10 ≤ x → r < length before → Put before at (decimal (x / 10)) r after → Put before at (decimal x) (r + 1) (set after r (48 + x % 10))
+pub put_last : {before after : List ℕ} {at r : ℕ} (x : ℕ) → 10 ≤ x → r < length before → Put before at (decimal (x / 10)) r after → Put before at (decimal x) (r + 1)
+    (set after r (48 + x % 10))
 put_last {before} {after} {at} {r} x h b p =
     rw (decimal_more x h)
     (record {

@@ -101,11 +101,13 @@ chooser_one {n} {e} {groups} {links} {marks} {amounts} {r} {r'} {m} {m'} {a} {a'
         }
 
 -- two judgements that the checker's promise allows are equal
-pub checker_one : {n e : ℕ} {groups links marks amounts : List ℕ} {r r' : Judgement} → CheckerSays n e groups links marks amounts r → CheckerSays n e groups links marks amounts r' → r ≡ r'
+pub checker_one : {n e : ℕ} {groups links marks amounts : List ℕ} {r r' : Judgement} → CheckerSays n e groups links marks amounts r
+    → CheckerSays n e groups links marks amounts r' → r ≡ r'
 checker_one {n} {e} {groups} {links} {marks} {amounts} {r} {r'} x y = judgement_one (checker_faults n e groups links marks amounts) r r' x.verdict y.verdict
 
 -- The chooser's own claim passes every row of the checker, for every survey that it picks from.
-pub own_accepted : {n e : ℕ} {groups links marks amounts : List ℕ} {rounds : ℕ} {m a : List ℕ} → ChooserSays n e groups links marks amounts (Choice.Chosen rounds) m a → Answers (checker_faults n e groups links m a) fine
+pub own_accepted : {n e : ℕ} {groups links marks amounts : List ℕ} {rounds : ℕ} {m a : List ℕ} → ChooserSays n e groups links marks amounts (Choice.Chosen rounds) m a → Answers
+    (checker_faults n e groups links m a) fine
 unfolding AllClear
 own_accepted {n} {e} {groups} {links} {marks} {amounts} {rounds} {m} {a} x =
     past (record { none = λ k l o. c.0.none k l (rw (x.lists.marked.long, x.lists.put.long) at o) })

@@ -54,7 +54,8 @@ pub last_same : {s : Survey} {C S : Set} → Inside s → Current s C → Heavie
 last_same {s} {C} i c h z = contains_both (round_within c h) (last_contains s C h (current_eligible i c) z)
 
 -- The last round's amounts, made for the current set's weights, are accepted for the set itself.
-module _ {s : Survey} (i : Inside s) {C T : Set} {a : Amounts} (p : 0 < D s all_groups) (c : Current s C) (d : Drains s (weights s C) a T) (dry : (g : ℕ) → g < s.n → In T g → credit s (weights s C) a g ≤ debit s (weights s C) a g) (z : WeighsZero s (weights s C) (outside T)) where
+module _ {s : Survey} (i : Inside s) {C T : Set} {a : Amounts} (p : 0 < D s all_groups) (c : Current s C) (d : Drains s (weights s C) a T)
+    (dry : (g : ℕ) → g < s.n → In T g → credit s (weights s C) a g ≤ debit s (weights s C) a g) (z : WeighsZero s (weights s C) (outside T)) where
   none_above : (g : ℕ) → g < s.n → credit s (weights s C) a g ≤ debit s (weights s C) a g
   none_above g l = by_test (T g) (λ y. dry g l y) (λ n. at (outside_in n))
     where

@@ -13,7 +13,8 @@ looking_ascends = refl
 
 pub reader_order : (f groups links : List ℕ) → InOrder looking_order (reader_faults f groups links)
 reader_order f groups links =
-    here refl (later (here refl (later (here refl (later (here refl (later (here refl (later (here refl (here refl (later (here refl (later (here refl (later (here refl (later (here refl (later (here refl (later (here refl none)))))))))))))))))))))))
+    here refl (later (here refl (later (here refl (later (here refl (later (here refl (later
+    (here refl (here refl (later (here refl (later (here refl (later (here refl (later (here refl (later (here refl (later (here refl none)))))))))))))))))))))))
 
 pub chooser_order : (n e : ℕ) (groups links marks amounts : List ℕ) → InOrder looking_order (chooser_faults n e groups links marks amounts)
 chooser_order n e groups links marks amounts =
@@ -21,7 +22,9 @@ chooser_order n e groups links marks amounts =
 
 pub checker_order : (n e : ℕ) (groups links marks amounts : List ℕ) → InOrder looking_order (checker_faults n e groups links marks amounts)
 checker_order n e groups links marks amounts =
-    here refl (later (later (later (later (here refl (later (later (later (here refl (later (here refl (later (here refl (later (here refl (later (here refl (later (here refl (later (here refl (later (here refl (later (here refl (later (here refl (later (here refl none)))))))))))))))))))))))))))))
+    here refl (later (later (later (later (here refl (later (later (later (here refl (later (here refl
+    (later (here refl (later (here refl (later (here refl (later (here refl (later (here refl
+    (later (here refl (later (here refl (later (here refl (later (here refl none)))))))))))))))))))))))))))))
 
 -- The sort of place of each number, as the table of Specification 11.1 has it: 0 nothing, 1 block, 2 group, 3 link. (6 has a row of place nothing
 -- besides.)

@@ -21,7 +21,8 @@ outside_twice S = λ i g. at (S g) i
     at true = refl
     at false = refl
 
-module _ {s : Survey} (i : Inside s) (w : Weights) (S : Set) {a : Amounts} (d : Drains s w a (outside S)) (dry : (g : ℕ) → g < s.n → In (outside S) g → credit s w a g ≤ debit s w a g) where
+module _ {s : Survey} (i : Inside s) (w : Weights) (S : Set) {a : Amounts} (d : Drains s w a (outside S))
+    (dry : (g : ℕ) → g < s.n → In (outside S) g → credit s w a g ≤ debit s w a g) where
   weighs_excess : total_plus s w S ≡ total_minus s w S + total s (excess s w a) S
   weighs_excess =
       subst (λ (X : Set). total_plus s w X ≡ total_minus s w X + total s (excess s w a) X) (outside_twice S) (weighs s a w i d dry)

@@ -70,7 +70,12 @@ module _ (s : Survey) (C : Set) where
     last_pick e p z =
         record {
           best = record { candidate = record { eligible = h.greatest.eligible; dead = dead }; unbeaten = λ B b k. unbeaten B b k };
-          contains = λ B b. heavy_within b.candidate.eligible (to_at_most S B (omega (arith, weighs_zero z, as_good B (b.unbeaten S (record { eligible = h.greatest.eligible; dead = dead })))));
+          contains = λ B b. heavy_within b.candidate.eligible (to_at_most S B (omega (
+            arith,
+            weighs_zero z,
+            as_good B
+                (b.unbeaten S (record { eligible = h.greatest.eligible; dead = dead })),
+          )));
         }
       where
         dead : 0 < D s S

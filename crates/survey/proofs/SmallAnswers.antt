@@ -74,7 +74,11 @@ file_rows f hb hn he = (
         few_whole 6 _ (omega arith, omega arith) (omega arith),
         (
           few_among 6 (block_count f) _ (omega arith, omega arith) hb,
-          (few_among 7 (block_count f) _ (omega arith, omega arith) hb, survey_few (survey_in f) (rw (given_n (n_in f) (e_in f) f _ f _) hn) (rw (given_e (n_in f) (e_in f) f _ f _) he)),
+          (
+            few_among 7 (block_count f) _ (omega arith, omega arith) hb,
+            survey_few (survey_in f) (rw (given_n (n_in f) (e_in f) f _ f _) hn)
+                (rw (given_e (n_in f) (e_in f) f _ f _) he),
+          ),
         ),
       ),
     ),
@@ -90,7 +94,8 @@ module _ {r : Refusal} where
       ⊎_elim (λ g. given_small (few_whole number P h (omega arith)) g) (λ c. go c.0 c.1) (look (whole number P) fs a)
 
   -- 5 and 8 to 12, and whatever comes after: past 5, n and e are in their range
-  list_small : (s : Survey) (more : List Fault) → (s.n ≤ place_room → s.e ≤ place_room → AllFew place_room more) → Answers (list_faults s ++ more) (refused r) → SmallBy place_room r
+  list_small : (s : Survey) (more : List Fault) → (s.n ≤ place_room → s.e ≤ place_room → AllFew place_room more) → Answers (list_faults s ++ more) (refused r)
+      → SmallBy place_room r
   list_small s more few a =
       first_whole ((s.n < 1) ⊎ ((group_limit < s.n) ⊎ (link_limit < s.e))) 5 (survey_faults s ++ more) (omega arith, omega arith)
       (λ c. refused_small (survey_faults s ++ more) (few_more (survey_faults s) more (survey_few s (groups c) (links c)) (few (groups c) (links c))))

@@ -78,8 +78,10 @@ sum_pick (suc n) S p x l =
     hit e = rw (e, eq-eqb n n refl)
 
 -- Exchange: what stands on the links by one of their ends, summed over the groups of a set, is the sum over the links with that end in the set.
-pub exchange : (n e : ℕ) (end : ℕ → ℕ) (a : ℕ → ℕ) (S : ℕ → Bool) → ((k : ℕ) → k < e → end k < n) → sum n (λ g. only (S g) (sum e (λ k. only (eqb (end k) g) (a k)))) ≡ sum e (λ k. only (S (end k)) (a k))
+pub exchange : (n e : ℕ) (end : ℕ → ℕ) (a : ℕ → ℕ) (S : ℕ → Bool) → ((k : ℕ) → k < e → end k < n) → sum n (λ g. only (S g) (sum e (λ k. only (eqb (end k) g) (a k)))) ≡ sum e
+    (λ k. only (S (end k)) (a k))
 exchange n e end a S below =
-    sum_cong n (λ g. only (S g) (sum e (λ k. only (eqb (end k) g) (a k)))) (λ g. sum e (λ k. only (S g) (only (eqb (end k) g) (a k)))) (λ g l. only_sum e (S g) (λ k. only (eqb (end k) g) (a k)))
+    sum_cong n (λ g. only (S g) (sum e (λ k. only (eqb (end k) g) (a k)))) (λ g. sum e (λ k. only (S g) (only (eqb (end k) g) (a k))))
+    (λ g l. only_sum e (S g) (λ k. only (eqb (end k) g) (a k)))
     ∙ sum_swap n e (λ g k. only (S g) (only (eqb (end k) g) (a k)))
     ∙ sum_cong e (λ k. sum n (λ g. only (S g) (only (eqb (end k) g) (a k)))) (λ k. only (S (end k)) (a k)) (λ k l. sum_pick n S (end k) (a k) (below k l))

@@ -111,7 +111,8 @@ number_from {b} h (here {m = k} {order = order} {f = g} {fs = fs} e i) f m =
 number_from {b} h (later {m = k} {order = order} i) f m = number_from (second_in (leb b k) (all_from b order) h) i f m
 
 -- Specification 10.2: where the order ascends, the first fault in it has the lowest number of those that are there.
-pub lowest_number : {order : List ℕ} {fs : List Fault} {r : Refusal} → ascending order ≡ true → InOrder order fs → Answers fs (refused r) → (f : Fault) → Memᴰ f fs → (k : ℕ) → k < f.places → f.at k → r.number ≤ f.number
+pub lowest_number : {order : List ℕ} {fs : List Fault} {r : Refusal} → ascending order ≡ true → InOrder order fs → Answers fs (refused r) → (f : Fault) → Memᴰ f fs → (k : ℕ)
+    → k < f.places → f.at k → r.number ≤ f.number
 unfolding First
 lowest_number h none a f m k l b = absurd (Memᴰ.not-nil m)
 lowest_number {r = r} h (here {m = x} {order = order} {f = g} {fs = fs} e i) a f m k l b =

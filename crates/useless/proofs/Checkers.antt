@@ -62,7 +62,8 @@ amount_bytes a = bytes_of (λ (x : ℕ). x) (λ (x : ℕ). 0) a
 
 -- ---- on F2
 
-f2_judged : (markTail amountTail : List ℕ) → Answers (list_faults f2 ++ claim_faults f2 (0 ∷ 1 ∷ 0 ∷ 0 ∷ 1 ∷ markTail) (amounts_of (amount_bytes (0 ∷ 0 ∷ 0 ∷ 18 ∷ []) ++ amountTail))) fine
+f2_judged : (markTail amountTail : List ℕ) → Answers (list_faults f2 ++ claim_faults f2 (0 ∷ 1 ∷ 0 ∷ 0 ∷ 1 ∷ markTail)
+    (amounts_of (amount_bytes (0 ∷ 0 ∷ 0 ∷ 18 ∷ []) ++ amountTail))) fine
 unfolding judged_test inside_test closed_test eligible_test lowest_below verdict_of verdict_test settled_test largest_set survey_tests claim_tests
     somewhere any_link via has_cycle gets pays sum total all_below find_from find_set any_set
 f2_judged markTail amountTail = judged f2 (0 ∷ 1 ∷ 0 ∷ 0 ∷ 1 ∷ markTail) (amount_bytes (0 ∷ 0 ∷ 0 ∷ 18 ∷ []) ++ amountTail) fine refl

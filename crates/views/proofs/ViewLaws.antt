@@ -26,7 +26,8 @@ module _ {f : List ℕ} {b : ℕ} (d : Block) (h : Within f b) (e : Views d f b)
   viewed_length = ap length e.bytes ∙ block_length h
 
   pub viewed_word : (w : ℕ) → 4 * w + 4 ≤ block_bytes → word d.bytes.now (4 * w) ≡ block_word f b w
-  viewed_word w l = ap (λ (x : List ℕ). word x (4 * w)) e.bytes ∙ omega (arith, block_byte h (4 * w) (omega arith), byte 1 (omega arith), byte 2 (omega arith), byte 3 (omega arith))
+  viewed_word w l = ap (λ (x : List ℕ). word x (4 * w)) e.bytes ∙ omega
+      (arith, block_byte h (4 * w) (omega arith), byte 1 (omega arith), byte 2 (omega arith), byte 3 (omega arith))
     where
       byte : (k : ℕ) → k < 4 → get_or (block_of f b) (4 * w + k) 0 ≡ get_or f (block_bytes * b + 4 * w + k) 0
       byte k m = block_byte h (4 * w + k) (omega arith) ∙ ap (λ (i : ℕ). get_or f i 0) (omega arith)

@@ -64,7 +64,8 @@ module _ {n g d l : ℕ} (groups : List ℕ) {r : Group} {w : Weight} (h : g < n
   minus_read = is.minus ∙ ap (λ (x : ℕ). x * d) (i.live ∙ ap (λ (x : survey.Group). cost x) (sym (given_group n 0 groups lent [] lent g h)))
 
 -- Put with D and L of a set, these are the weights of Specification 6.1, in every survey that has these groups.
-module _ {n : ℕ} {groups : List ℕ} (e : ℕ) (links : List ℕ) (S : Set) {plus minus plus' minus' : List ℕ} (p : WeightsPut n groups (D (groups_of n groups) S) (L (groups_of n groups) S) plus minus plus' minus') where
+module _ {n : ℕ} {groups : List ℕ} (e : ℕ) (links : List ℕ) (S : Set) {plus minus plus' minus' : List ℕ}
+    (p : WeightsPut n groups (D (groups_of n groups) S) (L (groups_of n groups) S) plus minus plus' minus') where
   pub plus_put : (g : ℕ) → g < n → get_or plus' g 0 ≡ (weights (survey_of n e groups links) S).plus g
   unfolding survey_at total
   plus_put g h = p.pluses.first g h

@@ -25,5 +25,6 @@ loop-done-preserved g c =
     let room = length c.loop-done.file - from in
     let within = c.loop-done.invariant.0 in
     let part = slice_range-put_mid from room c.in-Ok.n c.loop-done.file c.read.new.buf within c.in-Ok.ensures.bound.0 in
-    let joined = take_split from (from + c.in-Ok.n) c.loop-done.file (put_mid from room c.loop-done.file c.read.new.buf) (omega arith) (take-put_mid_below _ _ _ _ _ (le_refl _) within) in
+    let joined = take_split from (from + c.in-Ok.n) c.loop-done.file (put_mid from room c.loop-done.file c.read.new.buf) (omega arith)
+    (take-put_mid_below _ _ _ _ _ (le_refl _) within) in
     (search rules, subst (Consumes _ _) (ap (λ l. take from c.loop-done.file ++ l) (sym part) ∙ joined) (Consumes-trans _ _ _ _ _ c.loop-done.invariant.1 c.in-Ok.ensures.bytes.0))

@@ -37,4 +37,5 @@ pub returns-in_default : goal.returns-in_default
 returns-in_default c =
     let a = c.args in
     let is = c.requires.1 in
-    absurd (kind_known a.n a.e a.b (λ z. c.in_default.in_default-own.rest.0.0.1 (is ∙ z)) (λ z. c.in_default.in_default-own.rest.0.1 (is ∙ z)) (λ z. c.in_default.in_default-own.rest.1 (is ∙ z)))
+    absurd (kind_known a.n a.e a.b (λ z. c.in_default.in_default-own.rest.0.0.1 (is ∙ z)) (λ z. c.in_default.in_default-own.rest.0.1 (is ∙ z))
+    (λ z. c.in_default.in_default-own.rest.1 (is ∙ z)))

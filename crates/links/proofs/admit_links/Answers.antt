@@ -15,7 +15,14 @@ returns-in-At-not_above c =
 pub has_cycle-requires : goal.has_cycle-requires
 has_cycle-requires c =
     let pre = c.requires in
-    record { groups = pre.1; links = pre.2; fit = pre.0; ends = rw c.in_default.is at c.first_outside-outside.ensures; order = rw c.in_default-not_above.is at c.first_not_above-not_above.ensures }
+    record {
+      groups = pre.1;
+      links = pre.2;
+      fit = pre.0;
+      ends = rw c.in_default.is at c.first_outside-outside.ensures;
+      order = rw c.in_default-not_above.is at
+          c.first_not_above-not_above.ensures;
+    }
 
 pub returns-then-has_cycle : goal.returns-then-has_cycle
 returns-then-has_cycle c =

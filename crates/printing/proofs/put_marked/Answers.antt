@@ -20,7 +20,20 @@ pub put_chosen_line-third-requires : goal.put_chosen_line-third-requires
 put_chosen_line-third-requires c = omega (arith, c.requires.room, c.put_survey_line-second.ensures.short, put_long c.put_survey_line-second.ensures.put)
 
 pub put_numbers-requires : goal.put_numbers-requires
-put_numbers-requires c = record { few = c.requires.marked.some.few; marks_long = c.requires.marked.marks_long; room = omega (arith, c.requires.room, c.requires.marked.some.few, c.put_survey_line-second.ensures.short, c.put_chosen_line-third.ensures.short, put_long c.put_survey_line-second.ensures.put, put_long c.put_chosen_line-third.ensures.put) }
+put_numbers-requires c = record {
+  few = c.requires.marked.some.few;
+  marks_long = c.requires.marked.marks_long;
+  room = omega (
+    arith,
+    c.requires.room,
+    c.requires.marked.some.few,
+    c.put_survey_line-second.ensures.short,
+    c.put_chosen_line-third.ensures.short,
+    put_long c.put_survey_line-second.ensures.put,
+    put_long c.put_chosen_line-third.ensures.put,
+  );
+}
 
 pub returns : goal.returns
-returns c = marked_put c.args.n c.args.e c.args.groups.now c.args.marks.now c.args.rounds c.count_marked-k.ensures c.dead_sum-d.ensures c.live_sum-l.ensures c.put_survey_line-second.ensures c.put_chosen_line-third.ensures c.put_numbers.ensures
+returns c = marked_put c.args.n c.args.e c.args.groups.now c.args.marks.now c.args.rounds c.count_marked-k.ensures c.dead_sum-d.ensures c.live_sum-l.ensures
+    c.put_survey_line-second.ensures c.put_chosen_line-third.ensures c.put_numbers.ensures

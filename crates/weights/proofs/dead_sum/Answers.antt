@@ -14,7 +14,16 @@ pub add_dead-sum-requires : goal.add_dead-sum-requires
 add_dead-sum-requires c = omega (arith, dead_fits c.requires.some c.args.marks.now c.loop-g.g c.loop-g-test.true, c.loop-g.invariant.1, c.dead_of-more.ensures)
 
 pub loop-g-preserved : goal.loop-g-preserved
-loop-g-preserved c = (omega (arith, c.loop-g-test.true), omega (arith, sum_more c.loop-g.g (deads c.args.groups.now c.args.marks.now), c.loop-g.invariant.1, c.dead_of-more.ensures, c.add_dead-sum.ensures))
+loop-g-preserved c = (
+  omega (arith, c.loop-g-test.true),
+  omega (
+    arith,
+    sum_more c.loop-g.g (deads c.args.groups.now c.args.marks.now),
+    c.loop-g.invariant.1,
+    c.dead_of-more.ensures,
+    c.add_dead-sum.ensures,
+  ),
+)
 
 pub returns : goal.returns
 returns c = let done : c.loop-g.g ≡ c.args.n = omega (arith, c.loop-g.invariant.0) in c.loop-g.invariant.1 ∙ rw done (dead_whole c.args.n c.args.groups.now c.args.marks.now)

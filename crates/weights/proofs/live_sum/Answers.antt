@@ -14,7 +14,16 @@ pub add_live-sum-requires : goal.add_live-sum-requires
 add_live-sum-requires c = omega (arith, cost_fits c.requires.some c.args.marks.now c.loop-g.g c.loop-g-test.true, c.loop-g.invariant.1, c.cost_of-more.ensures)
 
 pub loop-g-preserved : goal.loop-g-preserved
-loop-g-preserved c = (omega (arith, c.loop-g-test.true), omega (arith, sum_more c.loop-g.g (costs c.args.groups.now c.args.marks.now), c.loop-g.invariant.1, c.cost_of-more.ensures, c.add_live-sum.ensures))
+loop-g-preserved c = (
+  omega (arith, c.loop-g-test.true),
+  omega (
+    arith,
+    sum_more c.loop-g.g (costs c.args.groups.now c.args.marks.now),
+    c.loop-g.invariant.1,
+    c.cost_of-more.ensures,
+    c.add_live-sum.ensures,
+  ),
+)
 
 pub returns : goal.returns
 returns c = let done : c.loop-g.g ≡ c.args.n = omega (arith, c.loop-g.invariant.0) in c.loop-g.invariant.1 ∙ rw done (cost_whole c.args.n c.args.groups.now c.args.marks.now)

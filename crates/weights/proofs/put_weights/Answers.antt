@@ -25,7 +25,14 @@ pub bounds-minus-g : goal.bounds-minus-g
 bounds-minus-g c = omega (arith, c.loop-g.invariant.2.long, c.requires.minus_long, c.loop-g-test.true)
 
 pub loop-g-preserved : goal.loop-g-preserved
-loop-g-preserved c = (omega (arith, c.loop-g-test.true), put_more (omega (arith, c.requires.plus_long, c.loop-g-test.true)) (plus_read c.args.groups.now c.loop-g-test.true c.group_at.ensures c.weight_of-weight.ensures) c.loop-g.invariant.1, put_more (omega (arith, c.requires.minus_long, c.loop-g-test.true)) (minus_read c.args.groups.now c.loop-g-test.true c.group_at.ensures c.weight_of-weight.ensures) c.loop-g.invariant.2)
+loop-g-preserved c = (
+  omega (arith, c.loop-g-test.true),
+  put_more (omega (arith, c.requires.plus_long, c.loop-g-test.true))
+      (plus_read c.args.groups.now c.loop-g-test.true c.group_at.ensures c.weight_of-weight.ensures) c.loop-g.invariant.1,
+  put_more
+      (omega (arith, c.requires.minus_long, c.loop-g-test.true))
+      (minus_read c.args.groups.now c.loop-g-test.true c.group_at.ensures c.weight_of-weight.ensures) c.loop-g.invariant.2,
+)
 
 pub shape_of-plus : goal.shape_of-plus
 shape_of-plus c = c.loop-g.invariant.1.long

@@ -6,7 +6,8 @@ use Prim.Native.Nat.{◌≤◌, ◌-◌, ◌*◌}
 use Rattle.weights.proofs.put_weights.Given as goal
 
 abbrev pub invariant-loop-g : goal.invariant-loop-g
-invariant-loop-g here = (here.g ≤ here.n) × PutFirst here.g (λ i. dead_of (groups_of here.n here.groups) i * here.l.0) here.initial.plus here.plus × PutFirst here.g (λ i. cost_of (groups_of here.n here.groups) i * here.d.0) here.initial.minus here.minus
+invariant-loop-g here = (here.g ≤ here.n) × PutFirst here.g (λ i. dead_of (groups_of here.n here.groups) i * here.l.0) here.initial.plus here.plus × PutFirst here.g
+    (λ i. cost_of (groups_of here.n here.groups) i * here.d.0) here.initial.minus here.minus
 
 abbrev pub decreases-loop-g : goal.decreases-loop-g
 decreases-loop-g here = here.n - here.g

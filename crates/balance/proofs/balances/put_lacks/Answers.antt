@@ -30,7 +30,11 @@ pub bounds-debit-g-in-loop-g : goal.bounds-debit-g-in-loop-g
 bounds-debit-g-in-loop-g c = omega (arith, c.requires.room.debits_long, c.loop-g-test.true, c.loop-g.invariant.1.long)
 
 pub loop-g-preserved : goal.loop-g-preserved
-loop-g-preserved c = (omega (arith, c.loop-g-test.true), put_more (omega (arith, c.requires.room.debits_long, c.loop-g-test.true)) (ap (λ z. z - get_or c.args.credit.now c.loop-g.g 0) (c.loop-g.invariant.1.rest c.loop-g.g (omega arith))) c.loop-g.invariant.1)
+loop-g-preserved c = (
+  omega (arith, c.loop-g-test.true),
+  put_more (omega (arith, c.requires.room.debits_long, c.loop-g-test.true))
+      (ap (λ z. z - get_or c.args.credit.now c.loop-g.g 0) (c.loop-g.invariant.1.rest c.loop-g.g (omega arith))) c.loop-g.invariant.1,
+)
 
 pub shape_of-debit : goal.shape_of-debit
 shape_of-debit c = c.loop-g.invariant.1.long

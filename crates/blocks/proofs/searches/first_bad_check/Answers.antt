@@ -9,7 +9,8 @@ pub check_agrees-requires : goal.check_agrees-requires
 check_agrees-requires c = record { fits = omega (arith, c.blocks_in-count.ensures) }
 
 pub returns-then-not-check_agrees : goal.returns-then-not-check_agrees
-returns-then-not-check_agrees c = found_here (omega (arith, c.blocks_in-count.ensures)) c.loop-b.invariant (told_not c.check_agrees.result c.if-not-check_agrees.true c.check_agrees.ensures)
+returns-then-not-check_agrees c = found_here (omega (arith, c.blocks_in-count.ensures)) c.loop-b.invariant
+    (told_not c.check_agrees.result c.if-not-check_agrees.true c.check_agrees.ensures)
 
 pub loop-b-preserved : goal.loop-b-preserved
 loop-b-preserved c = before_next c.loop-b.invariant (λ d. d (told c.check_agrees.result c.if-not-check_agrees.false c.check_agrees.ensures))

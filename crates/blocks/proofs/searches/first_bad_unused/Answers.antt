@@ -27,10 +27,12 @@ unused_are_zero-requires c =
     )
 
 pub returns-then-not-unused_are_zero : goal.returns-then-not-unused_are_zero
-returns-then-not-unused_are_zero c = found_here (omega (arith, c.blocks_in-count.ensures)) c.loop-b.invariant (told_not c.unused_are_zero.result c.if-not-unused_are_zero.true (rw (c.n_in-n.ensures.0, c.e_in-e.ensures.0) at c.unused_are_zero.ensures))
+returns-then-not-unused_are_zero c = found_here (omega (arith, c.blocks_in-count.ensures)) c.loop-b.invariant
+    (told_not c.unused_are_zero.result c.if-not-unused_are_zero.true (rw (c.n_in-n.ensures.0, c.e_in-e.ensures.0) at c.unused_are_zero.ensures))
 
 pub loop-b-preserved : goal.loop-b-preserved
-loop-b-preserved c = before_next c.loop-b.invariant (λ d. d (told c.unused_are_zero.result c.if-not-unused_are_zero.false (rw (c.n_in-n.ensures.0, c.e_in-e.ensures.0) at c.unused_are_zero.ensures)))
+loop-b-preserved c = before_next c.loop-b.invariant (λ d. d (told c.unused_are_zero.result c.if-not-unused_are_zero.false
+    (rw (c.n_in-n.ensures.0, c.e_in-e.ensures.0) at c.unused_are_zero.ensures)))
 
 pub returns : goal.returns
 returns c = found_none (omega (arith, c.blocks_in-count.ensures)) c.loop-b.invariant

@@ -11,4 +11,8 @@ pub returns-then-block_word-kind : goal.returns-then-block_word-kind
 returns-then-block_word-kind c = λ p. c.if-block_word-kind.true (c.block_word.ensures ∙ p.1)
 
 pub returns : goal.returns
-returns c = (eqb-true (number_in c.args.file.now c.args.b) c.args.b ((sym c.block_numbered.ensures) ∙ c.if-not-block_numbered.false), sym c.block_word.ensures ∙ c.if-block_word-kind.false)
+returns c = (
+  eqb-true (number_in c.args.file.now c.args.b) c.args.b ((sym c.block_numbered.ensures) ∙ c.if-not-block_numbered.false),
+  sym c.block_word.ensures
+      ∙ c.if-block_word-kind.false,
+)

@@ -12,10 +12,12 @@ pub live_sum-l-requires : goal.live_sum-l-requires
 live_sum-l-requires c = listed_marked c.requires
 
 pub put_weights-requires : goal.put_weights-requires
-put_weights-requires c = sound_puttable c.args.n c.args.e c.args.groups.now c.args.links.now c.requires.sound c.requires.groups_long (marked_set c.args.current.now) c.dead_sum-d.ensures c.live_sum-l.ensures (omega (arith, few_groups c.requires)) (omega (arith, few_groups c.requires))
+put_weights-requires c = sound_puttable c.args.n c.args.e c.args.groups.now c.args.links.now c.requires.sound c.requires.groups_long
+    (marked_set c.args.current.now) c.dead_sum-d.ensures c.live_sum-l.ensures (omega (arith, few_groups c.requires)) (omega (arith, few_groups c.requires))
 
 pub heaviest-requires : goal.heaviest-requires
-heaviest-requires c = round_weighable c.requires c.dead_sum-d.ensures c.live_sum-l.ensures c.put_weights.ensures (omega (arith, few_groups c.requires)) (omega (arith, few_groups c.requires))
+heaviest-requires c = round_weighable c.requires c.dead_sum-d.ensures c.live_sum-l.ensures c.put_weights.ensures (omega (arith, few_groups c.requires))
+    (omega (arith, few_groups c.requires))
 
 pub any_above-requires : goal.any_above-requires
 any_above-requires c = omega (arith, few_groups c.requires, c.heaviest.ensures.plus_long, c.put_weights.ensures.pluses.long)

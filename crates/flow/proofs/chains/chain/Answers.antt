@@ -20,7 +20,16 @@ pub offset_bounds-chains-head : goal.offset_bounds-chains-head
 offset_bounds-chains-head c = omega (arith, c.requires.small, chain_here c.requires c.loop-k.invariant c.loop-k-test.true c.end_in.ensures)
 
 pub bounds-chains-head : goal.bounds-chains-head
-bounds-chains-head c = omega (arith, c.requires.few_groups, c.requires.few_links, c.requires.small, c.requires.long, c.loop-k.invariant.within, c.loop-k.invariant.long, chain_here c.requires c.loop-k.invariant c.loop-k-test.true c.end_in.ensures)
+bounds-chains-head c = omega (
+  arith,
+  c.requires.few_groups,
+  c.requires.few_links,
+  c.requires.small,
+  c.requires.long,
+  c.loop-k.invariant.within,
+  c.loop-k.invariant.long,
+  chain_here c.requires c.loop-k.invariant c.loop-k-test.true c.end_in.ensures,
+)
 
 pub overflow_mul-chains : goal.overflow_mul-chains
 overflow_mul-chains c = omega (arith, c.requires.small)
@@ -38,16 +47,43 @@ pub offset_bounds-chains-end : goal.offset_bounds-chains-end
 offset_bounds-chains-end c = omega (arith, c.requires.few_groups, c.requires.few_links, c.requires.small, c.requires.long, c.loop-k.invariant.within, c.loop-k.invariant.long)
 
 pub bounds-chains-end : goal.bounds-chains-end
-bounds-chains-end c = omega (arith, c.requires.few_groups, c.requires.few_links, c.requires.small, c.requires.long, c.loop-k.invariant.within, c.loop-k.invariant.long, c.loop-k-test.true)
+bounds-chains-end c = omega (
+  arith,
+  c.requires.few_groups,
+  c.requires.few_links,
+  c.requires.small,
+  c.requires.long,
+  c.loop-k.invariant.within,
+  c.loop-k.invariant.long,
+  c.loop-k-test.true,
+)
 
 pub overflow_cast-chains : goal.overflow_cast-chains
 overflow_cast-chains c = omega (arith, c.requires.few_links, c.loop-k.invariant.within)
 
 pub offset_bounds-chains-head-in-loop-k : goal.offset_bounds-chains-head-in-loop-k
-offset_bounds-chains-head-in-loop-k c = omega (arith, c.requires.few_groups, c.requires.few_links, c.requires.small, c.requires.long, c.loop-k.invariant.within, c.loop-k.invariant.long, chain_here c.requires c.loop-k.invariant c.loop-k-test.true c.end_in.ensures)
+offset_bounds-chains-head-in-loop-k c = omega (
+  arith,
+  c.requires.few_groups,
+  c.requires.few_links,
+  c.requires.small,
+  c.requires.long,
+  c.loop-k.invariant.within,
+  c.loop-k.invariant.long,
+  chain_here c.requires c.loop-k.invariant c.loop-k-test.true c.end_in.ensures,
+)
 
 pub bounds-chains-head-in-loop-k : goal.bounds-chains-head-in-loop-k
-bounds-chains-head-in-loop-k c = simp length-set (omega (arith, c.requires.few_groups, c.requires.few_links, c.requires.small, c.requires.long, c.loop-k.invariant.within, c.loop-k.invariant.long, chain_here c.requires c.loop-k.invariant c.loop-k-test.true c.end_in.ensures))
+bounds-chains-head-in-loop-k c = simp length-set (omega (
+  arith,
+  c.requires.few_groups,
+  c.requires.few_links,
+  c.requires.small,
+  c.requires.long,
+  c.loop-k.invariant.within,
+  c.loop-k.invariant.long,
+  chain_here c.requires c.loop-k.invariant c.loop-k-test.true c.end_in.ensures,
+))
 
 pub loop-k-preserved : goal.loop-k-preserved
 loop-k-preserved c = rw c.end_in.ensures (chain_more c.requires refl c.loop-k-test.true c.loop-k.invariant)

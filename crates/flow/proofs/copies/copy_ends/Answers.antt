@@ -41,7 +41,11 @@ pub loop-k-smaller : goal.loop-k-smaller
 loop-k-smaller c = omega (arith, c.loop-k-test.true)
 
 pub loop-k-preserved : goal.loop-k-preserved
-loop-k-preserved c = (omega (arith, c.loop-k-test.true), copied_more (omega (arith, c.requires.ends_long, c.loop-k-test.true)) c.end_of-p.ensures c.end_of-q.ensures c.loop-k.invariant.1)
+loop-k-preserved c = (
+  omega (arith, c.loop-k-test.true),
+  copied_more
+      (omega (arith, c.requires.ends_long, c.loop-k-test.true)) c.end_of-p.ensures c.end_of-q.ensures c.loop-k.invariant.1,
+)
 
 pub shape_of-ends : goal.shape_of-ends
 shape_of-ends c = c.loop-k.invariant.1.long

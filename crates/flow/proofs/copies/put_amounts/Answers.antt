@@ -22,7 +22,11 @@ pub loop-k-smaller : goal.loop-k-smaller
 loop-k-smaller c = omega (arith, c.loop-k-test.true)
 
 pub loop-k-preserved : goal.loop-k-preserved
-loop-k-preserved c = (omega (arith, c.loop-k-test.true), put_more (omega (arith, c.requires.room, c.loop-k-test.true)) (omega (arith, c.type_inv.x c.loop-k.k)) c.put_amount.ensures c.loop-k.invariant.1)
+loop-k-preserved c = (
+  omega (arith, c.loop-k-test.true),
+  put_more (omega (arith, c.requires.room, c.loop-k-test.true))
+      (omega (arith, c.type_inv.x c.loop-k.k)) c.put_amount.ensures c.loop-k.invariant.1,
+)
 
 pub shape_of-amounts : goal.shape_of-amounts
 shape_of-amounts c = c.loop-k.invariant.1.long

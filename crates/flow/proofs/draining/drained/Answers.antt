@@ -24,4 +24,5 @@ grow-requires c =
     (omega (arith, c.begin-started.ensures.t_long, c.requires.t_long)) (omega (arith, c.begin-started.ensures.order_long, c.requires.net.few_groups))
 
 pub returns : goal.returns
-returns c = drained_law c.copy_ends.ensures (net_copy c.copy_ends.ensures c.requires.net (omega (arith, c.requires.net.few_links))) c.take_amounts.ensures c.find_ways.ensures c.begin-started.ensures c.grow.ensures
+returns c = drained_law c.copy_ends.ensures (net_copy c.copy_ends.ensures c.requires.net (omega
+    (arith, c.requires.net.few_links))) c.take_amounts.ensures c.find_ways.ensures c.begin-started.ensures c.grow.ensures

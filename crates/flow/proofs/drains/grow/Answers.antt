@@ -6,10 +6,21 @@ use Rattle.flow.proofs.GrowLaws.{others_begun}
 use Rattle.flow.proofs.drains.grow.Goals as goal
 
 pub others_of-requires : goal.others_of-requires
-others_of-requires c = record { few = omega (arith, placed_most c.requires.placed, c.requires.few); order_long = omega (arith, placed_most c.requires.placed, c.requires.order_long); group = λ i h. omega (arith, c.requires.placed.group i h, c.requires.few); room = omega arith }
+others_of-requires c = record {
+  few = omega (arith, placed_most c.requires.placed, c.requires.few);
+  order_long = omega
+      (arith, placed_most c.requires.placed, c.requires.order_long);
+  group = λ i h. omega (arith, c.requires.placed.group i h, c.requires.few);
+  room = omega arith;
+}
 
 pub grow_into-requires : goal.grow_into-requires
-grow_into-requires c = record { growable = c.requires; who = others_begun c.requires.few c.requires.placed full_bit c.others_of.ensures; room = omega (arith, c.others_of.ensures.long) }
+grow_into-requires c = record {
+  growable = c.requires;
+  who = others_begun c.requires.few c.requires.placed full_bit c.others_of.ensures;
+  room = omega
+      (arith, c.others_of.ensures.long);
+}
 
 pub shape_of-t : goal.shape_of-t
 shape_of-t c = c.grow_into.ensures.grew.t_long

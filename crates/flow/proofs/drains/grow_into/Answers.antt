@@ -10,7 +10,12 @@ pub offset_bounds-order-at : goal.offset_bounds-order-at
 offset_bounds-order-at c = omega (arith, c.loop-at-test.true, placed_most c.loop-at.invariant.grew.placed, c.requires.growable.few)
 
 pub bounds-order-at : goal.bounds-order-at
-bounds-order-at c = omega (arith, c.loop-at-test.true, placed_most c.loop-at.invariant.grew.placed, (see_first c.requires c.loop-at.invariant c.loop-at-test.true).growing.growable.order_long)
+bounds-order-at c = omega (
+  arith,
+  c.loop-at-test.true,
+  placed_most c.loop-at.invariant.grew.placed,
+  (see_first c.requires c.loop-at.invariant c.loop-at-test.true).growing.growable.order_long,
+)
 
 pub overflow_cast-p : goal.overflow_cast-p
 overflow_cast-p c = omega (arith, (see_first c.requires c.loop-at.invariant c.loop-at-test.true).below, c.requires.growable.few)

@@ -25,7 +25,12 @@ pub loop-i-smaller : goal.loop-i-smaller
 loop-i-smaller c = omega (arith, c.loop-i-test.true)
 
 pub loop-i-preserved : goal.loop-i-preserved
-loop-i-preserved c = (omega (arith, c.loop-i-test.true), rw c.cut.ensures (others_more (c.requires.group c.loop-i.i c.loop-i-test.true) (omega (arith, c.requires.room, c.loop-i.invariant.1.long)) (λ j h. c.requires.group j (omega (arith, c.loop-i-test.true))) c.loop-i.invariant.1))
+loop-i-preserved c = (
+  omega (arith, c.loop-i-test.true),
+  rw c.cut.ensures
+      (others_more (c.requires.group c.loop-i.i c.loop-i-test.true) (omega (arith, c.requires.room, c.loop-i.invariant.1.long))
+      (λ j h. c.requires.group j (omega (arith, c.loop-i-test.true))) c.loop-i.invariant.1),
+)
 
 pub shape_of-others : goal.shape_of-others
 shape_of-others c = c.loop-i.invariant.1.long

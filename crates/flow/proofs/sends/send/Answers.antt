@@ -18,7 +18,8 @@ pub overflow_sub-amount : goal.overflow_sub-amount
 overflow_sub-amount c = omega (arith, c.lower-most.ensures.second, most_taken c.takes-d-2.ensures)
 
 pub shift-requires-2 : goal.shift-requires-2
-shift-requires-2 c = rw c.end_in-q.ensures (c.requires.gives (λ z. c.if-q-g.false (c.end_in-q.ensures ∙ z)) _ (omega (arith, c.lower-most.ensures.first, most_taken c.takes-d-2.ensures)) (omega (arith, c.lower-most.ensures.second, most_taken c.takes-d-2.ensures)))
+shift-requires-2 c = rw c.end_in-q.ensures (c.requires.gives (λ z. c.if-q-g.false (c.end_in-q.ensures ∙ z)) _
+    (omega (arith, c.lower-most.ensures.first, most_taken c.takes-d-2.ensures)) (omega (arith, c.lower-most.ensures.second, most_taken c.takes-d-2.ensures)))
 
 pub returns : goal.returns
 returns c = gave (λ z. c.if-q-g.false (c.end_in-q.ensures ∙ z)) _ _ c.lower-most.ensures (rw c.end_in-q.ensures at c.takes-d-2.ensures) (rw c.end_in-q.ensures at c.shift-2.ensures)

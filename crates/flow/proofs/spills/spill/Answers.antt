@@ -67,10 +67,25 @@ pub overflow_add-k-in-loop-k-2 : goal.overflow_add-k-in-loop-k-2
 overflow_add-k-in-loop-k-2 c = omega (arith, spill_small c.requires, c.requires.course.net.few_groups, c.requires.course.net.few_links, c.requires.below, c.loop-k-test.true)
 
 pub offset_bounds-chains-end-in-loop-k : goal.offset_bounds-chains-end-in-loop-k
-offset_bounds-chains-end-in-loop-k c = omega (arith, spill_small c.requires, c.requires.course.net.few_groups, c.requires.course.net.few_links, c.requires.below, c.loop-k-test.true)
+offset_bounds-chains-end-in-loop-k c = omega (
+  arith,
+  spill_small c.requires,
+  c.requires.course.net.few_groups,
+  c.requires.course.net.few_links,
+  c.requires.below,
+  c.loop-k-test.true,
+)
 
 pub bounds-chains-end-in-loop-k : goal.bounds-chains-end-in-loop-k
-bounds-chains-end-in-loop-k c = omega (arith, spill_small c.requires, c.requires.course.net.few_groups, c.requires.course.net.few_links, c.requires.below, c.requires.index.long, c.loop-k-test.true)
+bounds-chains-end-in-loop-k c = omega (
+  arith,
+  spill_small c.requires,
+  c.requires.course.net.few_groups,
+  c.requires.course.net.few_links,
+  c.requires.below,
+  c.requires.index.long,
+  c.loop-k-test.true,
+)
 
 pub overflow_cast-k-in-loop-k : goal.overflow_cast-k-in-loop-k
 overflow_cast-k-in-loop-k c = omega (arith, (c.requires.index.nexts c.loop-k.k c.loop-k-test.true).within, c.requires.course.net.few_links)
@@ -79,7 +94,8 @@ pub loop-k-smaller : goal.loop-k-smaller
 loop-k-smaller c = omega (arith, (c.requires.index.nexts c.loop-k.k c.loop-k-test.true).from, (c.requires.index.nexts c.loop-k.k c.loop-k-test.true).within, c.loop-k-test.true)
 
 pub loop-k-preserved : goal.loop-k-preserved
-loop-k-preserved c = spill_on c.requires c.loop-k.invariant c.loop-k-test.true c.end_in-q.ensures (above_0 c.if-excess-g-eq0.false) (rw c.least_for-least.ensures at c.offer.ensures)
+loop-k-preserved c = spill_on c.requires c.loop-k.invariant c.loop-k-test.true c.end_in-q.ensures (above_0 c.if-excess-g-eq0.false)
+    (rw c.least_for-least.ensures at c.offer.ensures)
 
 pub shape_of-amounts : goal.shape_of-amounts
 shape_of-amounts c = (spilled_ran c.loop-k.invariant.spilled).flowed.amounts_long

@@ -12,10 +12,17 @@ pub chain-requires : goal.chain-requires
 chain-requires c = settle_chainable c.requires (inl refl) (omega arith) (λ g l. get_or-replicate 2304 (head_at 0 g) _ 0 (omega (arith, c.requires.course.net.few_groups)))
 
 pub chain-requires-2 : goal.chain-requires-2
-chain-requires-2 c = settle_chainable c.requires (inr refl) (omega (arith, c.chain.ensures.long)) (settle_empty c.requires c.chain.ensures (λ i l. get_or-replicate 2304 i _ 0 (omega arith)))
+chain-requires-2 c = settle_chainable c.requires (inr refl) (omega (arith, c.chain.ensures.long))
+    (settle_empty c.requires c.chain.ensures (λ i l. get_or-replicate 2304 i _ 0 (omega arith)))
 
 pub find_ways-requires : goal.find_ways-requires
-find_ways-requires c = record { net = c.requires.course.net; amounts_long = c.requires.course.amounts_long; ways_long = omega (arith, c.requires.course.net.few_groups); blank = no_ways 256 }
+find_ways-requires c = record {
+  net = c.requires.course.net;
+  amounts_long = c.requires.course.amounts_long;
+  ways_long = omega
+      (arith, c.requires.course.net.few_groups);
+  blank = no_ways 256;
+}
 
 pub waves-requires : goal.waves-requires
 waves-requires c = settle_ask c.requires c.chain.ensures (omega (arith, c.requires.course.net.few_groups)) c.find_ways.ensures c.chain-2.ensures

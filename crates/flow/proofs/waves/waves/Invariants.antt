@@ -6,7 +6,8 @@ use Rattle.flow.specs.Waves.{lacks, Waved}
 use Rattle.flow.proofs.waves.waves.Given as goal
 
 abbrev pub invariant-loop-order : goal.invariant-loop-order
-invariant-loop-order l = Waved l.n l.e l.ends l.initial.amounts l.initial.excess l.initial.lack l.initial.ways l.initial.t l.amounts l.excess l.lack l.ways l.t × (length l.order ≡ group_limit)
+invariant-loop-order l = Waved l.n l.e l.ends l.initial.amounts l.initial.excess l.initial.lack l.initial.ways l.initial.t l.amounts l.excess l.lack l.ways l.t ×
+    (length l.order ≡ group_limit)
 
 abbrev pub decreases-loop-order : goal.decreases-loop-order
 decreases-loop-order l = lacks l.n l.lack

@@ -31,7 +31,8 @@ pub loop-k-preserved : goal.loop-k-preserved
 loop-k-preserved c = (
   omega (arith, c.loop-k-test.true),
   found_length c.find_way.ensures ∙ c.loop-k.invariant.1,
-  ways_more c.requires.net c.loop-k-test.true c.end_in-p.ensures c.end_in-q.ensures (omega (arith, c.requires.ways_long, c.loop-k.invariant.1)) c.loop-k.invariant.2 c.find_way.ensures,
+  ways_more c.requires.net c.loop-k-test.true c.end_in-p.ensures c.end_in-q.ensures
+      (omega (arith, c.requires.ways_long, c.loop-k.invariant.1)) c.loop-k.invariant.2 c.find_way.ensures,
 )
 
 pub shape_of-ways : goal.shape_of-ways

@@ -5,4 +5,8 @@ use Rattle.printing.proofs.PutLaws.{put_then}
 use Rattle.printing.proofs.text.put_named.Goals as goal
 
 pub returns : goal.returns
-returns c = record { put = put_then c.put_text-after_word.ensures c.put_decimal.ensures; short = omega (arith, c.put_text-after_word.ensures.end, c.put_decimal.ensures.end, decimal_short c.args.x c.ranges.x.fits) }
+returns c = record {
+  put = put_then c.put_text-after_word.ensures c.put_decimal.ensures;
+  short = omega
+      (arith, c.put_text-after_word.ensures.end, c.put_decimal.ensures.end, decimal_short c.args.x c.ranges.x.fits);
+}

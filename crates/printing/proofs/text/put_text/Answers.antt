@@ -24,4 +24,5 @@ pub shape_of-out : goal.shape_of-out
 shape_of-out c = ap length c.loop-i.invariant.1 ∙ written_long c.args.out.now c.args.at (take c.loop-i.i c.args.text.now)
 
 pub returns : goal.returns
-returns c = let done : c.loop-i.i ≡ length c.args.text.now = omega arith in record { room = c.requires; end = omega arith; is = c.loop-i.invariant.1 ∙ rw (done, take-length c.args.text.now) }
+returns c = let done : c.loop-i.i ≡ length c.args.text.now = omega arith in
+    record { room = c.requires; end = omega arith; is = c.loop-i.invariant.1 ∙ rw (done, take-length c.args.text.now) }

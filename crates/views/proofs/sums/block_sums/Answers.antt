@@ -10,7 +10,11 @@ pub block_word-x-requires : goal.block_word-x-requires
 block_word-x-requires c = (c.requires, omega arith)
 
 pub loop-w-preserved : goal.loop-w-preserved
-loop-w-preserved c = (omega arith, c.sums_after-s.ensures ∙ ap₂ sums_after c.loop-w.invariant.1 c.block_word-x.ensures ∙ sym (sums_more (block_word c.args.file.now c.args.b) c.loop-w.w))
+loop-w-preserved c = (
+  omega arith,
+  c.sums_after-s.ensures ∙ ap₂ sums_after c.loop-w.invariant.1 c.block_word-x.ensures ∙ sym
+      (sums_more (block_word c.args.file.now c.args.b) c.loop-w.w),
+)
 
 pub returns : goal.returns
 returns c = c.loop-w.invariant.1 ∙ ap (sums (block_word c.args.file.now c.args.b)) (omega arith)

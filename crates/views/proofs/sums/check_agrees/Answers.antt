@@ -9,4 +9,8 @@ pub returns-then-block_check-s-2 : goal.returns-then-block_check-s-2
 returns-then-block_check-s-2 c = λ k. c.if-block_check-s-2.true (c.block_check-2.ensures ∙ k.second ∙ sym (ap (λ (s : Sums). s.b) c.block_sums-s.ensures))
 
 pub returns : goal.returns
-returns c = record { first = sym c.block_check.ensures ∙ c.if-block_check-s.false ∙ (ap (λ (s : Sums). s.a) c.block_sums-s.ensures); second = sym c.block_check-2.ensures ∙ c.if-block_check-s-2.false ∙ (ap (λ (s : Sums). s.b) c.block_sums-s.ensures) }
+returns c = record {
+  first = sym c.block_check.ensures ∙ c.if-block_check-s.false ∙ (ap (λ (s : Sums). s.a) c.block_sums-s.ensures);
+  second = sym c.block_check-2.ensures
+      ∙ c.if-block_check-s-2.false ∙ (ap (λ (s : Sums). s.b) c.block_sums-s.ensures);
+}
