@@ -1,22 +1,26 @@
 // A list of groups, lent as bytes or standing in the blocks of a file: how many it has, and where they stand.
 ghost use Rattle.std.specs.Prelude.{◌<◌};
-ghost use Rattle.counts.specs.Counts.{GroupIs};
-ghost use Rattle.admit.specs.Lists.{GroupsFit, group_in};
+ghost use Rattle.cycles.specs.Within.{EachWithin, each_within_prop};
 
 use counts::Group;
-use entries::group_at;
-use survey::stands::Stand;
+use entries::Entries;
 
+// Each of the n groups is there.
 #[derive(Clone, Copy)]
-pub struct GroupList {
+pub struct GroupList<'a> {
     pub n: usize,
-    pub stand: Stand,
+    pub entries: Entries<'a>,
+    pub ghost fit: { EachWithin n entries.bytes.now entries.stand } by { each_within_prop n entries.bytes.now entries.stand },
 }
 
-pub fn group_of(b: &[u8], list: GroupList, g: usize) -> Group
-    requires { GroupsFit b.now list × (g < list.n) }
-    ensures { GroupIs result (group_in b.now list g) }
-{
-    let stand = list.stand;
-    group_at(b, stand, g)
+impl<'a> GroupList<'a> {
+    ghost use Rattle.counts.specs.Counts.{GroupIs};
+    ghost use Rattle.admit.specs.Groups.{group_in};
+
+    pub fn group(self, g: usize) -> Group
+        requires { g < self.n }
+        ensures { GroupIs result (group_in self.entry g) }
+    {
+        self.entries.group(g)
+    }
 }

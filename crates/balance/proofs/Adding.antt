@@ -1,10 +1,12 @@
 -- Amounts added along the links: what the lists hold after each, and that nothing wraps on the way.
 use Prim.Native.Nat.{ℕ, zero, suc, ◌+◌, ◌≤◌, ◌<◌}
-use native.Mathlib.Numerals.{add-one}
-use native.Mathlib.Decide.{ℕ_discrete}
 use native.Mathlib.Omega.{arith}
 use mathlib.Core.Path.{◌≡◌, refl, sym, ap, ◌∙◌}
-use mathlib.Core.Bool.{Bool, true, false}
+use mathlib.Core.Bool.{Bool, false}
+use mathlib.Core.Logic.{⊎_elim}
+use native.Mathlib.Nat.{eq-or-lt_of_le}
+use Rattle.survey.proofs.Sums.{sum_more}
+use Rattle.survey.proofs.Totals.{by_test}
 use mathlib.Core.List.{List}
 use lib.ListN.{length, get_or, set, length-set}
 use lib.Seq.{get_or-set_same, get_or-set_other}
@@ -18,24 +20,18 @@ use Rattle.balance.specs.Balances.{amounts_at, AddAsks, Added, Takes}
 sum_first : (e k : ℕ) (f : ℕ → ℕ) → k ≤ e → sum k f ≤ sum e f
 unfolding sum
 sum_first zero k f l = let z : k ≡ 0 = omega arith in rw z (omega arith)
-sum_first (suc e) k f l = at (ℕ_discrete k (suc e)) (λ m. sum_first e k f m)
-  where
-    at : Dec (k ≡ suc e) → (k ≤ e → sum k f ≤ sum e f) → sum k f ≤ sum e f + f e
-    at (yes q) go = rw q (omega arith)
-    at (no d) go = omega (arith, go (omega arith))
-
-sum_next : (k : ℕ) (f : ℕ → ℕ) → sum (k + 1) f ≡ sum k f + f k
-unfolding sum
-sum_next k f = rw add-one
+sum_first (suc e) k f l =
+    ⊎_elim (λ (q : k ≡ suc e). rw q (omega arith)) (λ (m : k < suc e). omega (arith, sum_first e k f (omega arith)))
+    (eq-or-lt_of_le l)
 
 module _ (ends : ℕ → ℕ) (a : Amounts) where
   next_here : (k g : ℕ) → ends k ≡ g → amounts_at ends a (k + 1) g ≡ amounts_at ends a k g + a k
-  next_here k g e = sum_next k (λ j. only (eqb (ends j) g) (a j)) ∙ rw (eq-eqb (ends k) g e)
+  next_here k g e = sum_more k (λ j. only (eqb (ends j) g) (a j)) ∙ rw (eq-eqb (ends k) g e)
 
   next_elsewhere : (k g : ℕ) → (ends k ≡ g → ⊥) → amounts_at ends a (k + 1) g ≡ amounts_at ends a k g
   next_elsewhere k g d =
       let other : eqb (ends k) g ≡ false = ne_eqb (ends k) g d in
-      omega (arith, sum_next k (λ j. only (eqb (ends j) g) (a j)), ap (λ (t : Bool). only t (a k)) other)
+      omega (arith, sum_more k (λ j. only (eqb (ends j) g) (a j)), ap (λ (t : Bool). only t (a k)) other)
 
 module _ {ends : ℕ → ℕ} {a : Amounts} {list : List ℕ} where
   pub added_none : Added ends a 0 list list
@@ -63,15 +59,18 @@ module _ {ends : ℕ → ℕ} {a : Amounts} {list : List ℕ} where
       {k p x : ℕ} {list' list'' : List ℕ} → ends k < length list → Added ends a k list list' → p ≡ ends k → x ≡ a k → list'' ≡ set list' p (get_or list' p 0 + x)
       → Added ends a (k + 1) list list''
   added_more {k} {p} {x} {list'} {list''} l w q z is =
-      rw (is, q, z) (record { long = simp length-set w.long; at = λ g h. here g h (eqb g (ends k)) refl })
-    where
-      here : (g : ℕ) → g < length list → (t : Bool) → eqb g (ends k) ≡ t → get_or (set list' (ends k) (get_or list' (ends k) 0 + a k)) g 0 ≡ get_or list g 0 + amounts_at ends a
-          (k + 1) g
-      here g h true e =
-          let same : g ≡ ends k = eqb-true g (ends k) e in
-          rw (same, get_or-set_same list' (ends k) (get_or list' (ends k) 0 + a k) 0 (omega (arith, w.long)))
-          (omega (arith, w.at (ends k) l, next_here ends a k (ends k) refl))
-      here g h false e =
-          let other : g ≡ ends k → ⊥ = eqb-false g (ends k) e in
-          get_or-set_other list' (ends k) g (get_or list' (ends k) 0 + a k) 0 other
-          ∙ omega (arith, w.at g h, next_elsewhere ends a k g (λ y. other (sym y)))
+      rw (is, q, z)
+      (record {
+        long = simp length-set w.long;
+        at =
+            λ g h.
+            by_test (eqb g (ends k))
+            (λ e.
+            let same : g ≡ ends k = eqb-true g (ends k) e in
+            rw (same, get_or-set_same list' (ends k) (get_or list' (ends k) 0 + a k) 0 (omega (arith, w.long)))
+            (omega (arith, w.at (ends k) l, next_here ends a k (ends k) refl)))
+            (λ e.
+            let other : g ≡ ends k → ⊥ = eqb-false g (ends k) e in
+            get_or-set_other list' (ends k) g (get_or list' (ends k) 0 + a k) 0 other
+            ∙ omega (arith, w.at g h, next_elsewhere ends a k g (λ y. other (sym y))));
+      })

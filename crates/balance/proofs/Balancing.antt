@@ -2,7 +2,7 @@
 use Prim.Native.Nat.{ℕ, ◌*◌, ◌≤◌, ◌<◌}
 use native.Mathlib.Nat.{mul-le-mul}
 use native.Mathlib.Omega.{arith}
-use mathlib.Core.Path.{◌≡◌, sym, ap, ◌∙◌}
+use mathlib.Core.Path.{◌≡◌, sym, ap}
 use mathlib.Core.List.{List}
 use lib.ListN.{length, get_or}
 use lib.Dec.{eqb}
@@ -23,12 +23,12 @@ use Rattle.weights.specs.Put.{Puttable, WeightsPut}
 use Rattle.weights.proofs.MarkedLaws.{sound_groups}
 use Rattle.weights.proofs.PutLaws.{plus_put, minus_put, sound_puttable}
 use Rattle.balance.specs.Rule.{RuleAsks}
-use Rattle.balance.specs.Balances.{from_of, to_of, amounts_at, Takes, AmountsAsk, AmountsAdded, BalanceLists, BalancesPut}
+use Rattle.balance.specs.Balances.{from_of, to_of, amounts_at, Takes, AmountsAsk, AmountsAdded, BalancesPut}
 
 -- each group has its place in the list, and what stands there is at most what one half of a weight comes to
-pub record WeightHalves (n : ℕ) (list : List ℕ) : Type 0 where
-  pub long : n ≤ length list
-  pub small : (g : ℕ) → g < n → get_or list g 0 ≤ count_limit * sum_limit
+record WeightHalves (n : ℕ) (list : List ℕ) : Type 0 where
+  long : n ≤ length list
+  small : (g : ℕ) → g < n → get_or list g 0 ≤ count_limit * sum_limit
 
 module _ (n e : ℕ) (groups links : List ℕ) where
   -- ---- the links of the survey are those of the list
@@ -105,49 +105,48 @@ module _ {n e : ℕ} {groups links marks amounts : List ℕ} (x : AdmittedCall n
 -- ---- of a claim whose balances are put
 
 module _ {n e d : ℕ} {groups links marks amounts : List ℕ} (p : RuleAsks n e groups links marks amounts d) where
-  -- Either list can take the amounts by either end.
-  pub amounts_ask : {list list' : List ℕ} → WeightHalves n list → WeightHalves n list' → AmountsAsk e links amounts list list'
-  amounts_ask h h' =
-      record {
-        links_long = p.call.links_long;
-        amounts_long = p.call.amounts_long;
-        from = takes_from n e groups links p.call.sound (amounts_of amounts) p.small h;
-        to = takes_to n e groups links p.call.sound (amounts_of amounts) p.small h';
-      }
-
-  module _ {l : ℕ} (is : l ≡ L (groups_of n groups) (marked_set marks)) {credits₀ debits₀ : List ℕ} (room : BalanceLists n credits₀ debits₀) where
+  module _ {l : ℕ} (is : l ≡ L (groups_of n groups) (marked_set marks)) {credits₀ debits₀ : List ℕ}
+      (credits_long : group_limit ≤ length credits₀) (debits_long : group_limit ≤ length debits₀) where
     pub puttable : Puttable n groups d l credits₀ debits₀
-    puttable = sound_puttable n e groups links p.call.sound p.call.groups_long (marked_set marks) p.dead is room.credits_long room.debits_long
+    puttable = sound_puttable n e groups links p.call.sound p.call.groups_long (marked_set marks) p.dead is
+        (omega (arith, p.call.few_groups, credits_long)) (omega (arith, p.call.few_groups, debits_long))
 
     module _ {credits debits : List ℕ} (w : WeightsPut n groups d l credits₀ debits₀ credits debits) where
       put : WeightsPut n groups (D (groups_of n groups) (marked_set marks)) (L (groups_of n groups) (marked_set marks)) credits₀ debits₀ credits debits
       put = rw (p.dead, is) at w
 
-      pub credits_hold : WeightHalves n credits
+      credits_hold : WeightHalves n credits
       credits_hold =
           record {
-            long = omega (arith, w.pluses.long, room.credits_long);
+            long = omega (arith, w.pluses.long, p.call.few_groups, credits_long);
             small = λ g h. omega (arith, plus_put e links (marked_set marks) put g h, plus_small n e groups links p.call.sound (marked_set marks) g h);
           }
 
-      pub debits_hold : WeightHalves n debits
+      debits_hold : WeightHalves n debits
       debits_hold =
           record {
-            long = omega (arith, w.minuses.long, room.debits_long);
+            long = omega (arith, w.minuses.long, p.call.few_groups, debits_long);
             small = λ g h. omega (arith, minus_put e links (marked_set marks) put g h, minus_small n e groups links p.call.sound (marked_set marks) g h);
           }
 
+      pub amounts_ask : AmountsAsk e links amounts credits debits
+      amounts_ask =
+          record {
+            links_long = p.call.links_long;
+            amounts_long = p.call.amounts_long;
+            from = takes_from n e groups links p.call.sound (amounts_of amounts) p.small credits_hold;
+            to = takes_to n e groups links p.call.sound (amounts_of amounts) p.small debits_hold;
+          }
+
       pub balances_put : {credits' debits' : List ℕ} → AmountsAdded e links amounts credits debits credits' debits'
-          → BalancesPut n e groups links marks amounts credits₀ debits₀ credits' debits'
+          → BalancesPut n e groups links marks amounts credits' debits'
       balances_put a =
           record {
-            credits_long = a.from.long ∙ w.pluses.long;
-            debits_long = a.to.long ∙ w.minuses.long;
             credit_at =
                 λ g h.
                 omega (
                   arith,
-                  a.from.at g (omega (arith, w.pluses.long, room.credits_long)),
+                  a.from.at g (omega (arith, w.pluses.long, p.call.few_groups, credits_long)),
                   plus_put e links (marked_set marks) put g h,
                   gets_at n e groups links (amounts_of amounts) g,
                 );
@@ -155,7 +154,7 @@ module _ {n e d : ℕ} {groups links marks amounts : List ℕ} (p : RuleAsks n e
                 λ g h.
                 omega (
                   arith,
-                  a.to.at g (omega (arith, w.minuses.long, room.debits_long)),
+                  a.to.at g (omega (arith, w.minuses.long, p.call.few_groups, debits_long)),
                   minus_put e links (marked_set marks) put g h,
                   pays_at n e groups links (amounts_of amounts) g,
                 );

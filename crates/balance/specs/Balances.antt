@@ -1,12 +1,11 @@
 -- Balances, in two lists: credit and debit.
 use Rattle.std.specs.Prelude.{ℕ, ◌+◌, ◌*◌, ◌^◌, ◌≤◌, ◌<◌, ◌≡◌, List, length, get_or, eqb}
-use Rattle.survey.specs.Limits.{entry_bytes}
+use Rattle.survey.specs.Limits.{entry_bytes, group_limit}
 use Rattle.survey.specs.Sets.{sum, only}
 use Rattle.survey.specs.Rounds.{weights}
 use Rattle.survey.specs.Balance.{Amounts, credit, debit}
 use Rattle.survey.specs.Words.{link_at, lent, survey_of, marked_set, amounts_of}
 use Rattle.survey.specs.Refusals.{Fault, among}
-use Rattle.balance.specs.Rule.{RuleAsks}
 
 -- ---- amounts, added along the links
 
@@ -48,21 +47,10 @@ pub record AmountsAdded (e : ℕ) (links amounts credits debits credits' debits'
 
 -- ---- the balances
 
--- each group has its place in both lists
-pub record BalanceLists (n : ℕ) (credits debits : List ℕ) : Type 0 where
-  pub credits_long : n ≤ length credits
-  pub debits_long : n ≤ length debits
-
-pub record BalancesAsk (n e : ℕ) (groups links marks amounts : List ℕ) (d : ℕ) (credits debits : List ℕ) : Type 0 where
-  pub rule : RuleAsks n e groups links marks amounts d
-  pub room : BalanceLists n credits debits
-
 -- the two halves of each balance of the survey, with the weights of the claimed set
-pub record BalancesPut (n e : ℕ) (groups links marks amounts credits debits credits' debits' : List ℕ) : Type 0 where
-  pub credits_long : length credits' ≡ length credits
-  pub debits_long : length debits' ≡ length debits
-  pub credit_at : (g : ℕ) → g < n → get_or credits' g 0 ≡ credit (survey_of n e groups links) (weights (survey_of n e groups links) (marked_set marks)) (amounts_of amounts) g
-  pub debit_at : (g : ℕ) → g < n → get_or debits' g 0 ≡ debit (survey_of n e groups links) (weights (survey_of n e groups links) (marked_set marks)) (amounts_of amounts) g
+pub record BalancesPut (n e : ℕ) (groups links marks amounts credits debits : List ℕ) : Type 0 where
+  pub credit_at : (g : ℕ) → g < n → get_or credits g 0 ≡ credit (survey_of n e groups links) (weights (survey_of n e groups links) (marked_set marks)) (amounts_of amounts) g
+  pub debit_at : (g : ℕ) → g < n → get_or debits g 0 ≡ debit (survey_of n e groups links) (weights (survey_of n e groups links) (marked_set marks)) (amounts_of amounts) g
 
 -- 17, by the two lists
 abbrev pub above_row : ℕ → List ℕ → List ℕ → Fault
@@ -70,5 +58,5 @@ above_row n credits debits = among 17 n (λ g. get_or debits g 0 < get_or credit
 
 -- each balance is 0 or below
 pub record LacksAsk (n : ℕ) (credits debits : List ℕ) : Type 0 where
-  pub room : BalanceLists n credits debits
+  pub few : n ≤ group_limit
   pub level : (g : ℕ) → g < n → get_or credits g 0 ≤ get_or debits g 0

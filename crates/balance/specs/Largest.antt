@@ -1,11 +1,10 @@
 -- The largest settled set, as what lies outside the set that drains.
-use Rattle.std.specs.Prelude.{ℕ, ◌*◌, ◌≤◌, List, length, get_or}
+use Rattle.std.specs.Prelude.{ℕ, ◌*◌, ◌≤◌, List, length, get_or, Option}
 use Rattle.survey.specs.Limits.{entry_bytes}
 use Rattle.survey.specs.Survey.{Survey}
 use Rattle.survey.specs.Sets.{Out}
 use Rattle.survey.specs.Words.{marked_set, amounts_of}
 use Rattle.survey.specs.Refusals.{Fault, among}
-use Rattle.refusals.specs.declared.found.Found.{Found}
 use Rattle.refusals.specs.Searches.{Finds}
 use Rattle.flow.specs.Links.{Given}
 use Rattle.flow.specs.Drains.{Net, Least}
@@ -30,7 +29,7 @@ pub record LargestAsks (n e : ℕ) (links marks amounts lack : List ℕ) : Type 
   pub marks_long : n ≤ length marks
 
 -- the lowest group that is outside the set that drains and not claimed
-pub record LeftOutFound (n e : ℕ) (links marks amounts lack : List ℕ) (r : Found) : Type 0 where
+pub record LeftOutFound (n e : ℕ) (links marks amounts lack : List ℕ) (r : Option ℕ) : Type 0 where
   pub drain : List ℕ
   pub least : (s : Survey) → Given s n e links → Least s (amounts_of amounts) (λ g. get_or lack g 0) (marked_set drain)
   pub finds : Finds (outside_row n drain marks) r

@@ -4,56 +4,46 @@
 
 mod balances;
 mod largest;
-mod sizes;
 
 ghost use Rattle.survey.specs.Words.{survey_of, marked_set, amounts_of};
 ghost use Rattle.survey.specs.Refusals.{Answers};
-ghost use Rattle.survey.specs.Answers.{judgement_verdict};
+ghost use Rattle.survey.specs.Answers.{verdict_of};
 ghost use Rattle.balance.specs.Rule.{RuleAsks, rule_faults};
 
-use crate::balances::{first_above, put_balances, put_lacks};
+use crate::balances::Balances;
 use crate::largest::first_left_out;
-use crate::sizes::GROUPS;
 use counts::Dead;
-use refusals::found::Found;
+use entries::Lists;
+use flow::sizes::GROUPS;
 use refusals::refused;
-use survey::answers::Judgement;
+use survey::answers::Refusal;
+
+// What is claimed of a survey: a mark for each group and an amount for each link, in two lists that are lent.
+#[derive(Clone, Copy)]
+pub struct Claim<'a> {
+    pub marks: &'a [u8],
+    pub amounts: &'a [u8],
+}
 
 // 17 and 18. d is D of the claimed set.
-pub fn rule_faults(
-    n: usize,
-    e: usize,
-    groups: &[u8],
-    links: &[u8],
-    marks: &[u8],
-    amounts: &[u8],
-    d: Dead,
-) -> Judgement
-    requires { RuleAsks n e groups.now links.now marks.now amounts.now d.0 }
-    ensures { Answers (rule_faults (survey_of n e groups.now links.now) (marked_set marks.now) (amounts_of amounts.now)) (judgement_verdict result) }
+#[tactic(auto, using(crate::proofs::RuleRows::rule_rows))]
+pub fn rule_faults(lists: Lists, claim: Claim, d: Dead) -> Result<(), Refusal>
+    requires { RuleAsks lists.n lists.e lists.groups.now lists.links.now claim.marks.now claim.amounts.now d.0 }
+    ensures { Answers (rule_faults (survey_of lists.entry.n lists.entry.e lists.entry.groups.now lists.entry.links.now)
+        (marked_set claim.entry.marks.now) (amounts_of claim.entry.amounts.now)) (verdict_of result) }
 {
-    let mut credit = [0u64; GROUPS];
-    let mut debit = [0u64; GROUPS];
-    put_balances(
-        n,
-        e,
-        groups,
-        links,
-        marks,
-        amounts,
-        d,
-        &mut credit,
-        &mut debit,
-    );
-    let above = first_above(n, &credit, &debit);
-    if let Found::At(g) = above {
-        return Judgement::Refused(refused(17, g));
+    let mut balances = Balances {
+        credit: [0u64; GROUPS],
+        debit: [0u64; GROUPS],
+    };
+    balances.put(lists, claim, d);
+    if let Some(g) = balances.first_above(lists.n) {
+        return Err(refused(17, g));
     }
     // No balance is above 0, so what a debit is above its credit is the lack, and the debits are needed no more.
-    put_lacks(n, &credit, &mut debit);
-    let left_out = first_left_out(n, e, links, marks, amounts, &debit);
-    if let Found::At(g) = left_out {
-        return Judgement::Refused(refused(18, g));
+    balances.put_lacks(lists.n);
+    if let Some(g) = first_left_out(lists, claim, &balances.debit) {
+        return Err(refused(18, g));
     }
-    Judgement::Accepted
+    Ok(())
 }

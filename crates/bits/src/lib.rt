@@ -30,7 +30,7 @@ pub fn lowest(w: u64) -> usize
     requires { 0 < w }
     ensures { result ≡ count_trailing_zeros 64 w }
 {
-    u64::trailing_zeros(w) as usize
+    w.trailing_zeros() as usize
 }
 
 // Puts group h into row g.
@@ -39,7 +39,7 @@ pub fn put(m: &mut [u64], g: usize, h: usize)
     ensures { m.new ≡ put_bit m.old g h }
 {
     let place = 2 * g + h / 64;
-    m[place] = m[place] | lone(h % 64);
+    m[place] |= lone(h % 64);
 }
 
 // Cuts group h from row g.

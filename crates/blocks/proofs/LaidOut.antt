@@ -9,7 +9,8 @@ use native.Mathlib.Omega.{arith}
 use lib.ListN.{length}
 use Rattle.survey.specs.Limits.{block_bytes, block_pairs}
 use Rattle.survey.specs.Words.{block_of_pair}
-use Rattle.survey.specs.SurveyFile.{block_count, CheckAgrees, number_in, kind_in, kind_of, n_in, e_in, blocks_for, first_group_block, first_link_block, blocks_needed, UnusedAreZero}
+use Rattle.survey.specs.SurveyFile.{block_count, CheckAgrees, number_in, kind_in, kind_of, n_in, e_in, blocks_for, first_group_block}
+use Rattle.survey.specs.SurveyFile.{first_link_block, blocks_needed, UnusedAreZero}
 use Rattle.survey.specs.Refusals.{Clear, AllClear}
 use Rattle.survey.specs.Faults.{bad_length, bad_check, bad_block_count, bad_kind, bad_unused, AdmittedFile}
 use Rattle.views.specs.Views.{Within}

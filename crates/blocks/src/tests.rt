@@ -1,12 +1,14 @@
 // What is asked of a block beside its check, and of the file as a whole: a test for each.
-ghost use Rattle.std.specs.Prelude.{◌≡◌, ◌^◌, ◌<◌};
+ghost use Rattle.std.specs.Prelude.{◌≡◌};
 ghost use Rattle.survey.specs.SurveyFile.{block_count, number_in, kind_in, kind_of, n_in, e_in, blocks_needed, UnusedAreZero};
 ghost use Rattle.survey.specs.Faults.{bad_length, bad_range};
 ghost use Rattle.refusals.specs.Searches.{Tells};
 ghost use Rattle.views.specs.Views.{Within};
+ghost use Rattle.layout.specs.Kinds.{number_of};
 ghost use Rattle.layout.specs.Sizes.{Countable};
 
-use layout::{blocks_needed, e_in, kind_of, n_in, used_words};
+use layout::{Kind, blocks_needed, kind_of, size_in, used_words};
+use survey::answers::Size;
 use views::view::{block_numbered, block_word};
 
 pub fn blocks_in(file: &[u8]) -> usize
@@ -20,32 +22,15 @@ pub fn bad_length(file: &[u8]) -> bool
     ensures { Tells ((bad_length file.now).at 0) result }
 {
     let long = file.len();
-    if long == 0 {
-        return true;
-    }
-    if 0 < long % 512 {
-        return true;
-    }
-    if 10_752 < long {
-        return true;
-    }
-    false
+    long == 0 || 0 < long % 512 || 10_752 < long
 }
 
 // 5: the header says more or fewer than a survey can have (Specification 2).
-pub fn bad_range(n: usize, e: usize) -> bool
-    ensures { Tells ((bad_range n e).at 0) result }
+// Kept: admission tests the same of a survey as lists; each is one line, and a function for both would be one more door with two numbers to lend.
+pub fn bad_range(size: Size) -> bool
+    ensures { Tells ((bad_range size.n size.e).at 0) result }
 {
-    if n < 1 {
-        return true;
-    }
-    if 128 < n {
-        return true;
-    }
-    if 1_024 < e {
-        return true;
-    }
-    false
+    size.n < 1 || 128 < size.n || 1_024 < size.e
 }
 
 // 6: as many blocks as n groups and e links have.
@@ -53,49 +38,31 @@ pub fn blocks_fit(file: &[u8]) -> bool
     requires { Within file.now 0 }
     ensures { Tells (block_count file.now ≡ blocks_needed (n_in file.now) (e_in file.now)) result }
 {
-    let n = n_in(file);
-    let e = e_in(file);
-    if blocks_in(file) == blocks_needed(n, e) {
-        return true;
-    }
-    false
+    blocks_in(file) == blocks_needed(size_in(file))
 }
 
 // Whether the first two words of block b are its number and this kind.
-pub fn number_and_kind(file: &[u8], b: usize, kind: u32) -> bool
+// Kept: that block b is there is a clause of each test, and no invariant of a struct of file and b: views::view has plain parameters, and each test would take it apart.
+pub fn number_and_kind(file: &[u8], b: usize, kind: Kind) -> bool
     requires { Within file.now b }
-    ensures { Tells ((number_in file.now b ≡ b) × (kind_in file.now b ≡ kind)) result }
+    ensures { Tells ((number_in file.now b ≡ b) × (kind_in file.now b ≡ number_of kind)) result }
 {
-    if !block_numbered(file, b) {
-        return false;
-    }
-    if block_word(file, b, 1) != kind {
-        return false;
-    }
-    true
+    block_numbered(file, b) && block_word(file, b, 1) == kind as u32
 }
 
 // The same for the kind that block b has in a file of n groups.
 pub fn kind_agrees(file: &[u8], n: usize, b: usize) -> bool
-    requires { Within file.now b × (n < 2 ^ 32) }
+    requires { Within file.now b }
     ensures { Tells ((number_in file.now b ≡ b) × (kind_in file.now b ≡ kind_of n b)) result }
 {
     number_and_kind(file, b, kind_of(n, b))
 }
 
-// Whether the unused words of block b are 0. Its kind says which these are, and is known to be the right one: faults are looked for in the order of their
-// numbers, and a wrong kind is 6.
-pub fn unused_are_zero(file: &[u8], n: usize, e: usize, b: usize) -> bool
-    requires { Within file.now b × Countable n e b × (kind_in file.now b ≡ kind_of n b) }
-    ensures { Tells (UnusedAreZero file.now n e b) result }
+// Whether the unused words of block b are 0. Which these are, the kind says that its place asks for.
+pub fn unused_are_zero(file: &[u8], size: Size, b: usize) -> bool
+    requires { Within file.now b × Countable size.n size.e b }
+    ensures { Tells (UnusedAreZero file.now size.n size.e b) result }
 {
-    let kind = block_word(file, b, 1);
-    let mut w = used_words(kind, n, e, b);
-    while w < 126 {
-        if block_word(file, b, w) != 0 {
-            return false;
-        }
-        w += 1;
-    }
-    true
+    let kind = kind_of(size.n, b);
+    (used_words(kind, size, b)..126).all(|w| block_word(file, b, w) == 0)
 }

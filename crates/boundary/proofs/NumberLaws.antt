@@ -3,12 +3,11 @@
 use Prim.Native.Nat.{ℕ, zero, suc, ◌+◌, ◌*◌, ◌/◌, ◌%◌, ◌^◌, ◌<◌}
 use mathlib.Core.Path.{◌≡◌, refl, sym, ap, ap₂, ◌∙◌}
 use native.Mathlib.Omega.{arith}
+use Rattle.std.specs.Prelude.{Result, Ok, Err}
+use Rattle.survey.specs.declared.answers.Size.{Size}
 use Rattle.survey.specs.declared.answers.Place.{Place}
 use Rattle.survey.specs.declared.answers.Place.TheVariants.{Nothing, Block, Group, Link}
 use Rattle.survey.specs.declared.answers.Refusal.{Refusal}
-use Rattle.survey.specs.declared.answers.Reading.{Reading}
-use Rattle.survey.specs.declared.answers.Choice.{Choice}
-use Rattle.survey.specs.declared.answers.Judgement.{Judgement}
 use Rattle.survey.specs.Answers.{sort_number, place_number, refusal_number, reading_number, choice_number, judgement_number}
 use Rattle.boundary.specs.Packed.{SmallRefusal, SmallReading, SmallChoice, SmallJudgement}
 
@@ -62,25 +61,25 @@ refusals_one : (r r' : Refusal) → SmallRefusal r → SmallRefusal r' → refus
 refusals_one r r' h h' e = refusal_number_one r r' h.number h'.number e
 
 -- So of each part: two answers with the same number are the same answer.
-pub reading_number_one : (r r' : Reading) → SmallReading r → SmallReading r' → reading_number r ≡ reading_number r' → r ≡ r'
-reading_number_one (Reading.Refused r) (Reading.Refused r') h h' e = ap (λ (x : Refusal). Reading.Refused x) (refusals_one r r' h h' e)
-reading_number_one (Reading.Refused r) (Reading.Survey n k) h h' e = absurd (apart r h e (omega arith))
-reading_number_one (Reading.Survey n k) (Reading.Refused r') h h' e = absurd (apart r' h' (sym e) (omega arith))
-reading_number_one (Reading.Survey n k) (Reading.Survey n' k') h h' e =
-    let low : n ≡ n' = sym (n_in_lem n k h.groups) ∙ ap (λ (x : ℕ). x / 65_536 % 65_536) e ∙ n_in_lem n' k' h'.groups in
-    ap₂ (λ (x y : ℕ). Reading.Survey x y) low (omega arith)
+pub reading_number_one : (r r' : Result Size Refusal) → SmallReading r → SmallReading r' → reading_number r ≡ reading_number r' → r ≡ r'
+reading_number_one (Err r) (Err r') h h' e = ap (λ (x : Refusal). Err x) (refusals_one r r' h h' e)
+reading_number_one (Err r) (Ok a) h h' e = absurd (apart r h e (omega arith))
+reading_number_one (Ok a) (Err r') h h' e = absurd (apart r' h' (sym e) (omega arith))
+reading_number_one (Ok a) (Ok b) h h' e =
+    let low : a.n ≡ b.n = sym (n_in_lem a.n a.e h.groups) ∙ ap (λ (x : ℕ). x / 65_536 % 65_536) e ∙ n_in_lem b.n b.e h'.groups in
+    ap₂ (λ (x y : ℕ). Ok (record { n = x; e = y })) low (omega arith)
   where
     n_in_lem : (n k : ℕ) → n < 2 ^ 16 → (65_536 * n + 4_294_967_296 * k) / 65_536 % 65_536 ≡ n
     n_in_lem n k l = let up : (65_536 * n + 4_294_967_296 * k) / 65_536 ≡ n + 65_536 * k = omega arith in omega arith
 
-pub choice_number_one : (r r' : Choice) → SmallChoice r → SmallChoice r' → choice_number r ≡ choice_number r' → r ≡ r'
-choice_number_one (Choice.Refused r) (Choice.Refused r') h h' e = ap (λ (x : Refusal). Choice.Refused x) (refusals_one r r' h h' e)
-choice_number_one (Choice.Refused r) (Choice.Chosen k) h h' e = absurd (apart r h e (omega arith))
-choice_number_one (Choice.Chosen k) (Choice.Refused r') h h' e = absurd (apart r' h' (sym e) (omega arith))
-choice_number_one (Choice.Chosen k) (Choice.Chosen k') h h' e = ap (λ (x : ℕ). Choice.Chosen x) (omega arith)
+pub choice_number_one : (r r' : Result ℕ Refusal) → SmallChoice r → SmallChoice r' → choice_number r ≡ choice_number r' → r ≡ r'
+choice_number_one (Err r) (Err r') h h' e = ap (λ (x : Refusal). Err x) (refusals_one r r' h h' e)
+choice_number_one (Err r) (Ok k) h h' e = absurd (apart r h e (omega arith))
+choice_number_one (Ok k) (Err r') h h' e = absurd (apart r' h' (sym e) (omega arith))
+choice_number_one (Ok k) (Ok k') h h' e = ap (λ (x : ℕ). Ok x) (omega arith)
 
-pub judgement_number_one : (r r' : Judgement) → SmallJudgement r → SmallJudgement r' → judgement_number r ≡ judgement_number r' → r ≡ r'
-judgement_number_one (Judgement.Refused r) (Judgement.Refused r') h h' e = ap (λ (x : Refusal). Judgement.Refused x) (refusals_one r r' h h' e)
-judgement_number_one (Judgement.Refused r) Judgement.Accepted h h' e = absurd (apart r h e refl)
-judgement_number_one Judgement.Accepted (Judgement.Refused r') h h' e = absurd (apart r' h' (sym e) refl)
-judgement_number_one Judgement.Accepted Judgement.Accepted h h' e = refl
+pub judgement_number_one : (r r' : Result (Unit {0}) Refusal) → SmallJudgement r → SmallJudgement r' → judgement_number r ≡ judgement_number r' → r ≡ r'
+judgement_number_one (Err r) (Err r') h h' e = ap (λ (x : Refusal). Err x) (refusals_one r r' h h' e)
+judgement_number_one (Err r) (Ok _) h h' e = absurd (apart r h e refl)
+judgement_number_one (Ok _) (Err r') h h' e = absurd (apart r' h' (sym e) refl)
+judgement_number_one (Ok _) (Ok _) h h' e = refl

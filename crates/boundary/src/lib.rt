@@ -6,9 +6,11 @@ ghost use Rattle.survey.specs.Answers.{sort_number, refusal_number, reading_numb
 ghost use Rattle.boundary.specs.Packed.{SmallRefusal, SmallReading, SmallChoice, SmallJudgement};
 
 use refusals::place_number;
-use survey::answers::{Choice, Judgement, Place, Reading, Refusal};
+use survey::answers::{Place, Refusal, Size};
 
 // Specification 12.2: the sort of a place.
+// Kept: named functions, and no `impl From<..> for u64`. A place has two numbers, its sort and its own (refusals::place_number), and `from` names neither;
+// an answer has one, but only a small one (SmallRefusal and its like), and the trait's clause has no room for that `requires`.
 fn sort_number(p: Place) -> u64
     ensures { (result ≡ sort_number p) × (result < 4) }
 {
@@ -31,32 +33,32 @@ pub fn refusal_number(r: Refusal) -> u64
     r.number + 256 * sort + 65_536 * (k as u64)
 }
 
-pub fn reading_number(r: Reading) -> u64
+pub fn reading_number(r: Result<Size, Refusal>) -> u64
     requires { SmallReading r }
     ensures { result ≡ reading_number r }
 {
     match r {
-        Reading::Refused(refusal) => refusal_number(refusal),
-        Reading::Survey { n, e } => 65_536 * (n as u64) + 4_294_967_296 * (e as u64),
+        Ok(size) => 65_536 * (size.n as u64) + 4_294_967_296 * (size.e as u64),
+        Err(refusal) => refusal_number(refusal),
     }
 }
 
-pub fn choice_number(c: Choice) -> u64
+pub fn choice_number(c: Result<u64, Refusal>) -> u64
     requires { SmallChoice c }
     ensures { result ≡ choice_number c }
 {
     match c {
-        Choice::Refused(refusal) => refusal_number(refusal),
-        Choice::Chosen { rounds } => 65_536 * rounds,
+        Ok(rounds) => 65_536 * rounds,
+        Err(refusal) => refusal_number(refusal),
     }
 }
 
-pub fn judgement_number(j: Judgement) -> u64
+pub fn judgement_number(j: Result<(), Refusal>) -> u64
     requires { SmallJudgement j }
     ensures { result ≡ judgement_number j }
 {
     match j {
-        Judgement::Refused(refusal) => refusal_number(refusal),
-        Judgement::Accepted => 0,
+        Ok(()) => 0,
+        Err(refusal) => refusal_number(refusal),
     }
 }

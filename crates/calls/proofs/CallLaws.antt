@@ -1,26 +1,18 @@
 -- How a call's admission is put together, and what is known of a call that has it.
 use Prim.Native.Nat.{ℕ, ◌≤◌, ◌<◌}
 use native.Mathlib.Omega.{arith}
-use mathlib.Core.Path.{◌≡◌}
 use mathlib.Core.Logic.{inl, inr, ⊎_elim}
 use mathlib.Core.List.{List}
-use Rattle.survey.specs.declared.answers.Refusal.{Refusal}
 use Rattle.survey.specs.Limits.{group_limit, link_limit}
-use Rattle.survey.specs.Words.{entries, lent, survey_of}
-use Rattle.survey.specs.Refusals.{Verdict, fine, refused, AllClear, Answers}
+use Rattle.survey.specs.Words.{lent, survey_of}
+use Rattle.survey.specs.Refusals.{Verdict, fine, AllClear, Answers}
 use Rattle.survey.specs.Faults.{OneShort, call_lists, list_faults, chooser_faults, Admitted}
 use Rattle.survey.proofs.Verdicts.{past, fine_clear}
 use Rattle.survey.proofs.GivenSurvey.{given_n, given_e}
 use Rattle.survey.specs.Sound.{Sound}
 use Rattle.survey.proofs.Admitted.{admitted_sound}
-use Rattle.refusals.specs.Refused.{refusal_whole}
-use Rattle.admit.specs.Lists.{EntriesFit}
-use Rattle.refusals.proofs.Looking.{stop_whole, whole_clear}
+use Rattle.refusals.proofs.Looking.{whole_clear}
 use Rattle.calls.specs.Calls.{LongEnough, AdmittedCall}
-
--- a list with as many entries as a survey can have has room for those that it has
-pub entries_fit : (k limit : ℕ) (l : List ℕ) → limit ≤ entries l → EntriesFit k limit l lent
-entries_fit k limit l h = record { fit = λ few j b. omega arith }
 
 module _ (groups links marks amounts : List ℕ) where
   pub none_short : (OneShort (call_lists groups links marks amounts) → ⊥) → LongEnough groups links marks amounts
@@ -42,9 +34,6 @@ module _ (groups links marks amounts : List ℕ) where
       (⊎_elim (λ h. omega (arith, w.marks_have)) (⊎_elim (λ h. omega (arith, w.amounts_have)) (λ z. z))))
 
   module _ (n e : ℕ) where
-    pub call_refused : {r : Refusal} → OneShort (call_lists groups links marks amounts) → r ≡ refusal_whole 1 → Answers (chooser_faults n e groups links marks amounts) (refused r)
-    call_refused h q = stop_whole h q
-
     pub call_answered : {v : Verdict} → (OneShort (call_lists groups links marks amounts) → ⊥) → Answers (list_faults (survey_of n e groups links)) v → Answers
         (chooser_faults n e groups links marks amounts) v
     call_answered d a = past (whole_clear d) a

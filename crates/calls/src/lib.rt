@@ -4,53 +4,41 @@
 
 ghost use Rattle.survey.specs.Refusals.{Answers};
 ghost use Rattle.survey.specs.Faults.{OneShort, call_lists, chooser_faults};
-ghost use Rattle.survey.specs.Answers.{admission_verdict};
+ghost use Rattle.survey.specs.Answers.{verdict_of};
 ghost use Rattle.refusals.specs.Searches.{Tells};
 
 use admit::admit;
-use entries::whole_entries;
+use cycles::limits::{GROUPS, LINKS};
+use entries::{Entries, Lists, whole_entries};
 use refusals::refused_whole;
-use survey::answers::Admission;
+use survey::answers::Refusal;
 use survey::stands::Stand;
 
-// How many entries a lent list has to have room for: as many as a survey can have (Specification 2).
-const GROUPS: usize = 128;
-
-const LINKS: usize = 1_024;
-
-// 1. A mark is one byte, so a list of marks has as many entries as bytes.
+// 1: a list has not room for as many entries as a survey can have. A mark is one byte, so a list of marks has as many entries as bytes.
 #[tactic(auto, unfolding(survey::specs::Faults::OneShort))]
-fn list_short(groups: &[u8], links: &[u8], marks: &[u8], amounts: &[u8]) -> bool
-    ensures { Tells (OneShort (call_lists groups.now links.now marks.now amounts.now)) result }
+fn list_short(lists: Lists, marks: &[u8], amounts: &[u8]) -> bool
+    ensures { Tells (OneShort (call_lists lists.entry.groups.now lists.entry.links.now marks.now amounts.now)) result }
 {
-    if whole_entries(groups) < GROUPS {
-        return true;
-    }
-    if whole_entries(links) < LINKS {
-        return true;
-    }
-    if marks.len() < GROUPS {
-        return true;
-    }
-    if whole_entries(amounts) < LINKS {
-        return true;
-    }
-    false
+    whole_entries(lists.groups) < GROUPS
+        || whole_entries(lists.links) < LINKS
+        || marks.len() < GROUPS
+        || whole_entries(amounts) < LINKS
 }
 
 // 1, 5 and 8 to 12.
-pub fn admit_call(
-    n: usize,
-    e: usize,
-    groups: &[u8],
-    links: &[u8],
-    marks: &[u8],
-    amounts: &[u8],
-) -> Admission
-    ensures { Answers (chooser_faults n e groups.now links.now marks.now amounts.now) (admission_verdict result) }
+pub fn admit_call(lists: Lists, marks: &[u8], amounts: &[u8]) -> Result<(), Refusal>
+    ensures { Answers (chooser_faults lists.entry.n lists.entry.e lists.entry.groups.now lists.entry.links.now marks.now amounts.now) (verdict_of result) }
 {
-    if list_short(groups, links, marks, amounts) {
-        return Admission::Refused(refused_whole(1));
+    if list_short(lists, marks, amounts) {
+        return Err(refused_whole(1));
     }
-    admit(n, e, groups, Stand::Lent, links, Stand::Lent)
+    let groups = Entries {
+        bytes: lists.groups,
+        stand: Stand::Lent,
+    };
+    let links = Entries {
+        bytes: lists.links,
+        stand: Stand::Lent,
+    };
+    admit(lists.n, lists.e, groups, links)
 }

@@ -1,15 +1,14 @@
 -- What the checker's promise comes to: what it accepts is the pick, it accepts exactly what the balance rule accepts, and refusal 18 always has
 -- its place.
-use Prim.Native.Nat.{ℕ, ◌≤◌, ◌<◌}
+use Prim.Native.Nat.{ℕ}
 use native.Mathlib.Decide.{ℕ_discrete}
 use native.Mathlib.Omega.{arith}
 use mathlib.Core.Path.{◌≡◌}
-use mathlib.Core.Logic.{◌⊎◌, inl, inr}
+use mathlib.Core.Logic.{◌⊎◌, inl, inr, ⊎_elim}
 use mathlib.Core.List.{List, [], ◌∷◌, ◌++◌}
 use lib.ListN.{get_or}
+use Rattle.std.specs.Prelude.{Result, Ok, Err}
 use Rattle.survey.specs.declared.answers.Refusal.{Refusal}
-use Rattle.survey.specs.declared.answers.Judgement.{Judgement}
-use Rattle.survey.specs.Limits.{amount_limit}
 use Rattle.survey.specs.Survey.{Survey}
 use Rattle.survey.specs.Sets.{Set, Eligible}
 use Rattle.survey.specs.Pick.{IsPick}
@@ -17,9 +16,9 @@ use Rattle.survey.specs.Balance.{Amounts, Accepted}
 use Rattle.survey.specs.Words.{survey_at, survey_of, marked_set, amounts_of}
 use Rattle.survey.specs.Refusals.{Verdict, refused, Fault, Clear, Given, AllClear, Answers}
 use Rattle.survey.specs.Faults.{bad_mark, bad_amount, not_closed, nothing_dead, balance_above, not_largest, list_faults, claim_faults, chooser_faults, checker_faults}
-use Rattle.survey.specs.Answers.{judgement_verdict}
+use Rattle.survey.specs.Answers.{verdict_of}
 use Rattle.survey.specs.Promises.{CheckerSays}
-use Rattle.survey.proofs.Verdicts.{past, none_left, clear_fine, fine_clear, afterwards}
+use Rattle.survey.proofs.Verdicts.{past, none_left, clear_fine, fine_clear, clear_parts, afterwards}
 use Rattle.survey.proofs.Small.{look, look_on}
 use Rattle.survey.specs.Sound.{Inside}
 use Rattle.survey.proofs.Totals.{by_test}
@@ -32,11 +31,6 @@ use Rattle.checker.specs.Accepting.{Acceptable, before18, Refused18}
 
 -- ---- faults that stand one after the other
 
-clear_parts : (fs gs : List Fault) → AllClear (fs ++ gs) → AllClear fs × AllClear gs
-unfolding AllClear
-clear_parts [] gs c = (tt, c)
-clear_parts (f ∷ fs) gs c = let rest = clear_parts fs gs c.1 in ((c.0, rest.0), rest.1)
-
 -- past faults that are not there
 on_past : (fs gs : List Fault) {v : Verdict} → AllClear fs → Answers (fs ++ gs) v → Answers gs v
 unfolding AllClear
@@ -47,16 +41,16 @@ on_past (f ∷ fs) gs c a = on_past fs gs c.1 (look_on f (fs ++ gs) c.0 a)
 
 module _ (n e : ℕ) (groups links marks amounts : List ℕ) where
   claim_clear :
-      CheckerSays n e groups links marks amounts Judgement.Accepted
+      CheckerSays n e groups links marks amounts (Ok tt)
       → AllClear (chooser_faults n e groups links marks amounts) × AllClear (claim_faults (survey_of n e groups links) marks (amounts_of amounts))
   claim_clear a =
       clear_parts (chooser_faults n e groups links marks amounts) (claim_faults (survey_of n e groups links) marks (amounts_of amounts))
       (fine_clear (checker_faults n e groups links marks amounts) a.verdict)
 
-  call_of : CheckerSays n e groups links marks amounts Judgement.Accepted → AdmittedCall n e groups links marks amounts
+  call_of : CheckerSays n e groups links marks amounts (Ok tt) → AdmittedCall n e groups links marks amounts
   call_of a = admitted_call groups links marks amounts n e (clear_fine (chooser_faults n e groups links marks amounts) (claim_clear a).0)
 
-  rule_of : CheckerSays n e groups links marks amounts Judgement.Accepted → Accepted (survey_of n e groups links) (marked_set marks) (amounts_of amounts)
+  rule_of : CheckerSays n e groups links marks amounts (Ok tt) → Accepted (survey_of n e groups links) (marked_set marks) (amounts_of amounts)
   unfolding AllClear
   rule_of a =
       let c = (claim_clear a).1 in
@@ -64,11 +58,11 @@ module _ (n e : ℕ) (groups links marks amounts : List ℕ) where
       (record { closed = c.1.1.0; dead = c.1.1.1.0; balances = c.1.1.1.1.0; largest = c.1.1.1.1.1.0 })
 
   -- What the checker accepts is the pick.
-  pub accepted_is_pick : CheckerSays n e groups links marks amounts Judgement.Accepted → IsPick (survey_of n e groups links) (marked_set marks)
+  pub accepted_is_pick : CheckerSays n e groups links marks amounts (Ok tt) → IsPick (survey_of n e groups links) (marked_set marks)
   accepted_is_pick a = accepted_pick (call_of a).sound.inside (rule_of a)
 
   -- The checker accepts exactly what is acceptable.
-  pub accepted_acceptable : CheckerSays n e groups links marks amounts Judgement.Accepted → Acceptable n e groups links marks amounts
+  pub accepted_acceptable : CheckerSays n e groups links marks amounts (Ok tt) → Acceptable n e groups links marks amounts
   unfolding AllClear survey_at
   accepted_acceptable a =
       let c = (claim_clear a).1 in
@@ -77,7 +71,7 @@ module _ (n e : ℕ) (groups links marks amounts : List ℕ) where
         long = call.0;
         admitted = call.1;
         marks_good = λ g l. good (get_or marks g 0) (c.0.none g l);
-        amounts_good = λ k l. within (c.1.0.none k l);
+        amounts_good = λ k l. omega (arith, c.1.0.none k l);
         rule = rule_of a;
       }
     where
@@ -87,16 +81,9 @@ module _ (n e : ℕ) (groups links marks amounts : List ℕ) where
           at : Dec (x ≡ 0) → Dec (x ≡ 1) → (x ≡ 0) ⊎ (x ≡ 1)
           at (yes z) y = inl z
           at (no z) (yes y) = inr y
-          at (no z) (no y) = absurd (d (λ (w : (x ≡ 0) ⊎ (x ≡ 1)). neither w))
-            where
-              neither : (x ≡ 0) ⊎ (x ≡ 1) → ⊥
-              neither (inl w) = z w
-              neither (inr w) = y w
+          at (no z) (no y) = absurd (d (⊎_elim z y))
 
-      within : {x : ℕ} → (amount_limit < x → ⊥) → x ≤ amount_limit
-      within d = omega arith
-
-  pub acceptable_accepted : Acceptable n e groups links marks amounts → CheckerSays n e groups links marks amounts Judgement.Accepted
+  pub acceptable_accepted : Acceptable n e groups links marks amounts → CheckerSays n e groups links marks amounts (Ok tt)
   unfolding AllClear survey_at
   acceptable_accepted x =
       record {
@@ -112,15 +99,15 @@ module _ (n e : ℕ) (groups links marks amounts : List ℕ) where
       claim = accepted_clear (survey_of n e groups links) (marked_set marks) (amounts_of amounts) x.rule
 
   pub accepted_iff :
-      (CheckerSays n e groups links marks amounts Judgement.Accepted → Acceptable n e groups links marks amounts)
-      × (Acceptable n e groups links marks amounts → CheckerSays n e groups links marks amounts Judgement.Accepted)
+      (CheckerSays n e groups links marks amounts (Ok tt) → Acceptable n e groups links marks amounts)
+      × (Acceptable n e groups links marks amounts → CheckerSays n e groups links marks amounts (Ok tt))
   accepted_iff = (accepted_acceptable, acceptable_accepted)
 
   -- ---- refusal 18
 
   -- A claim that passes every row up to 17 and that the rule does not accept is refused 18, and the group is there to be named.
   pub refusal_18_has_its_place :
-      (r : Judgement) → CheckerSays n e groups links marks amounts r → AllClear (before18 n e groups links marks amounts)
+      (r : Result (Unit {0}) Refusal) → CheckerSays n e groups links marks amounts r → AllClear (before18 n e groups links marks amounts)
       → (Accepted (survey_of n e groups links) (marked_set marks) (amounts_of amounts) → ⊥) → Refused18 n e groups links marks amounts r
   unfolding AllClear survey_at
   refusal_18_has_its_place r a c not =
@@ -148,11 +135,11 @@ module _ (n e : ℕ) (groups links marks amounts : List ℕ) where
                 record { back = λ k l m. by_test (S (s.link k).from) (λ y. y) (λ z. absurd (parts.1.1.1.0.none k l (z, m))) };
           }
 
-      answer : (r : Judgement) {y : Refusal} → judgement_verdict r ≡ refused y → r ≡ Judgement.Refused y
-      answer (Judgement.Refused y') q = cc
-      answer Judgement.Accepted q = let z : ◌≡◌ {A = ℕ} 0 1 = cc in absurd (omega arith)
+      answer : (r : Result (Unit {0}) Refusal) {y : Refusal} → verdict_of r ≡ refused y → r ≡ Err y
+      answer (Err y') q = cc
+      answer (Ok tt) q = let z : ◌≡◌ {A = ℕ} 0 1 = cc in absurd (omega arith)
 
-      at : Given (not_largest s S x) (judgement_verdict r) ⊎ (Clear (not_largest s S x) × Answers [] (judgement_verdict r)) → Refused18 n e groups links marks amounts r
+      at : Given (not_largest s S x) (verdict_of r) ⊎ (Clear (not_largest s S x) × Answers [] (verdict_of r)) → Refused18 n e groups links marks amounts r
       at (inl g) =
           let f = g.lowest.fault in
           record {

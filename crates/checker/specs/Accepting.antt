@@ -1,6 +1,6 @@
 -- What it is for a claim to be acceptable, all rows and the balance rule together (Specification 1.4, demand 3), and what a refusal 18 says.
-use Rattle.std.specs.Prelude.{ℕ, ◌≤◌, ◌<◌, ◌≡◌, ◌⊎◌, List, [], ◌∷◌, ◌++◌, get_or}
-use Rattle.survey.specs.declared.answers.Judgement.{Judgement}
+use Rattle.survey.specs.declared.answers.Refusal.{Refusal}
+use Rattle.std.specs.Prelude.{ℕ, ◌≤◌, ◌<◌, ◌≡◌, ◌⊎◌, List, [], ◌∷◌, ◌++◌, get_or, Result, Err}
 use Rattle.survey.specs.Limits.{amount_limit}
 use Rattle.survey.specs.Sets.{Set, In, Out, Contains}
 use Rattle.survey.specs.Rounds.{weights}
@@ -32,9 +32,9 @@ before18 n e groups links marks amounts =
     ∷ [])
 
 -- A refusal 18: its group is the lowest that the largest settled set has and the claim leaves out, and the claimed set lies in the largest.
-pub record Refused18 (n e : ℕ) (groups links marks amounts : List ℕ) (r : Judgement) : Type 0 where
+pub record Refused18 (n e : ℕ) (groups links marks amounts : List ℕ) (r : Result (Unit {0}) Refusal) : Type 0 where
   pub group : ℕ
-  pub is : r ≡ Judgement.Refused (refusal_at 18 group)
+  pub is : r ≡ Err (refusal_at 18 group)
   pub largest_set : Set
   pub largest : LargestSettled (survey_of n e groups links) (weights (survey_of n e groups links) (marked_set marks)) (amounts_of amounts) largest_set
   pub contains : Contains (survey_of n e groups links) largest_set (marked_set marks)

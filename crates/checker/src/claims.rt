@@ -5,70 +5,40 @@ ghost use Rattle.survey.specs.Limits.{entry_bytes};
 ghost use Rattle.refusals.specs.Searches.{Finds, Tells};
 ghost use Rattle.checker.specs.Claims.{mark_row, amount_row, Open, closed_row, LinkMarked, EndsMarked};
 
-use entries::{amount_at, link_at};
-use refusals::found::Found;
-use survey::stands::Stand;
+use entries::{Lists, amount_at};
 
 // the most that a claim puts on a link (Specification 7.1)
 const AMOUNT: u64 = 20_000_000_000_000_000;
 
 // 13: the lowest group at fault.
-#[tactic(auto, using(refusals::proofs::Looking::found_here, crate::proofs::Looks::mark_bad))]
-pub fn first_bad_mark(n: usize, marks: &[u8]) -> Found
+pub fn first_bad_mark(n: usize, marks: &[u8]) -> Option<usize>
     requires { n ≤ length marks.now }
     ensures { Finds (mark_row n marks.now) result }
 {
-    let mut g = 0;
-    while g < n {
-        if 1 < marks[g] {
-            return Found::At(g);
-        }
-        g += 1;
-    }
-    Found::Missing
+    (0..n).find(|g| 1 < marks[*g])
 }
 
 // 14: the lowest link at fault.
-pub fn first_above_limit(e: usize, amounts: &[u8]) -> Found
+pub fn first_above_limit(e: usize, amounts: &[u8]) -> Option<usize>
     requires { entry_bytes * e ≤ length amounts.now }
     ensures { Finds (amount_row e amounts.now) result }
 {
-    let mut k = 0;
-    while k < e {
-        let amount = amount_at(amounts, k);
-        if AMOUNT < amount {
-            return Found::At(k);
-        }
-        k += 1;
-    }
-    Found::Missing
+    (0..e).find(|k| AMOUNT < amount_at(amounts, *k))
 }
 
 // 15: from out, to in
-fn is_open(links: &[u8], marks: &[u8], k: usize) -> bool
-    requires { LinkMarked links.now marks.now k }
-    ensures { Tells (Open links.now marks.now k) result }
+fn is_open(lists: Lists, marks: &[u8], k: usize) -> bool
+    requires { LinkMarked lists.links.now marks.now k }
+    ensures { Tells (Open lists.entry.links.now marks.now k) result }
 {
-    let link = link_at(links, Stand::Lent, k);
-    let from = link.from;
-    let to = link.to;
-    if marks[from] == 1 {
-        return false;
-    }
-    marks[to] == 1
+    let link = lists.link(k);
+    marks[link.from] != 1 && marks[link.to] == 1
 }
 
 // 15: the lowest link at fault.
-pub fn first_open(e: usize, links: &[u8], marks: &[u8]) -> Found
-    requires { EndsMarked e links.now marks.now }
-    ensures { Finds (closed_row e links.now marks.now) result }
+pub fn first_open(lists: Lists, marks: &[u8]) -> Option<usize>
+    requires { EndsMarked lists.e lists.links.now marks.now }
+    ensures { Finds (closed_row lists.entry.e lists.entry.links.now marks.now) result }
 {
-    let mut k = 0;
-    while k < e {
-        if is_open(links, marks, k) {
-            return Found::At(k);
-        }
-        k += 1;
-    }
-    Found::Missing
+    (0..lists.e).find(|k| is_open(lists, marks, *k))
 }

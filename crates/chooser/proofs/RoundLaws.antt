@@ -1,17 +1,15 @@
 -- One round: what it asks of the calls is there, and what they leave is a round of Specification 6.3.
-use Prim.Native.Nat.{ℕ, ◌+◌, ◌<◌, ◌≤◌}
+use Prim.Native.Nat.{ℕ, ◌*◌, ◌<◌, ◌≤◌}
 use native.Mathlib.Nat.{mul-le-mul}
 use native.Mathlib.Omega.{arith}
 use mathlib.Core.Path.{◌≡◌, sym, ◌∙◌}
 use mathlib.Core.Bool.{Bool}
-use mathlib.Core.Logic.{◌⊎◌, inl, inr}
 use mathlib.Core.List.{List}
 use lib.ListN.{length, get_or}
-use Rattle.survey.specs.Limits.{group_limit, link_limit, amount_limit}
+use Rattle.survey.specs.Limits.{entry_bytes, group_limit, link_limit, amount_limit}
 use Rattle.survey.specs.Sets.{all_groups, sum, total, D, L}
 use Rattle.survey.specs.Rounds.{weights, WeighsZero}
 use Rattle.survey.specs.Words.{survey_at, survey_of, marked_set, amounts_of, lent}
-use Rattle.survey.proofs.SumOrder.{before_or_last}
 use Rattle.survey.proofs.Sums.{sum_cong}
 use Rattle.survey.proofs.GivenSurvey.{given_n, given_e}
 use Rattle.survey.proofs.Admitted.{dead_small, cost_small}
@@ -31,27 +29,9 @@ use Rattle.flow.proofs.LinkLaws.{survey_given, given_from, given_to, inside_ends
 use Rattle.flow.proofs.HeavyLaws.{bare_no_cycle}
 use Rattle.chooser.specs.Rounds.{AnyAbove, Listed, Round}
 
--- ---- looking for an excess
-
-pub above_none : (l : List ℕ) → AnyAbove 0 l → ⊥
-above_none l a = omega (arith, a.below)
-
-pub above_next : {g : ℕ} {l : List ℕ} → (AnyAbove g l → ⊥) → (0 < get_or l g 0 → ⊥) → AnyAbove (g + 1) l → ⊥
-above_next {g} {l} d z a = by_place (at_place a.below)
-  where
-    at_place : a.group < g + 1 → (a.group < g) ⊎ (a.group ≡ g)
-    at_place h = before_or_last g a.group (omega arith)
-
-    by_place : (a.group < g) ⊎ (a.group ≡ g) → ⊥
-    by_place (inl h) = d (record { group = a.group; below = h; above = a.above })
-    by_place (inr q) = z (rw (sym q) a.above)
-
-pub above_more : {g n : ℕ} {l : List ℕ} → g < n → 0 < get_or l g 0 → AnyAbove n l
-above_more {g} h p = record { group = g; below = h; above = p }
-
 -- ---- the lists of an admitted survey
 
-module _ {n e : ℕ} {groups links current amounts : List ℕ} (x : Listed n e groups links current amounts) where
+module _ {n e : ℕ} {groups links : List ℕ} (x : Listed n e groups links) where
   pub few_groups : n ≤ group_limit
   few_groups = rw (given_n n e groups lent links lent) at x.sound.groups
 
@@ -68,12 +48,14 @@ module _ {n e : ℕ} {groups links current amounts : List ℕ} (x : Listed n e g
         to = λ k h. (inside_ends (survey_given n e groups links) x.sound.inside k h).1;
       }
 
-  pub listed_marked : MarkedGroups n groups current
-  listed_marked = record { some = sound_groups n e groups links x.sound x.groups_long; marks_long = x.current_long }
+  pub listed_marked : {current : List ℕ} → n ≤ length current → MarkedGroups n groups current
+  listed_marked long = record { some = sound_groups n e groups links x.sound x.groups_long; marks_long = long }
+
+pub ruleset round_steps = (few_groups, few_links, listed_marked)
 
 -- ---- weights of the current set
 
-module _ {n e d l : ℕ} {groups links current amounts plus₀ minus₀ plus minus : List ℕ} (x : Listed n e groups links current amounts)
+module _ {n e d l : ℕ} {groups links : List ℕ} (current : List ℕ) {plus₀ minus₀ plus minus : List ℕ} (x : Listed n e groups links)
     (is-d : d ≡ D (groups_of n groups) (marked_set current)) (is-l : l ≡ L (groups_of n groups) (marked_set current))
     (put : WeightsPut n groups d l plus₀ minus₀ plus minus) where
   own : WeightsPut n groups (D (groups_of n groups) (marked_set current)) (L (groups_of n groups) (marked_set current)) plus₀ minus₀ plus minus
@@ -100,23 +82,25 @@ module _ {n e d l : ℕ} {groups links current amounts plus₀ minus₀ plus min
   v : Given (survey_of n e groups links) n e links
   v = survey_given n e groups links
 
-  pub round_weighable : n ≤ length plus₀ → n ≤ length minus₀ → Weighable n e links plus minus current amounts
-  round_weighable p m =
+  pub round_weighable :
+      {amounts : List ℕ} → n ≤ length plus₀ → n ≤ length minus₀ → n ≤ length current → entry_bytes * e ≤ length amounts
+      → Weighable n e links plus minus current amounts
+  round_weighable p m c a =
       record {
         net = listed_net x;
         no_cycle = bare_no_cycle (survey_given n e groups links) x.sound.without_cycle;
         once =
-            λ j k a b p q.
-            link_once x.sound j k (rw (given_e n e groups lent links lent) a) (rw (given_e n e groups lent links lent) b)
-            (given_from v j a ∙ p ∙ sym (given_from v k b)) (given_to v j a ∙ q ∙ sym (given_to v k b));
+            λ j k y z p q.
+            link_once x.sound j k (rw (given_e n e groups lent links lent) y) (rw (given_e n e groups lent links lent) z)
+            (given_from v j y ∙ p ∙ sym (given_from v k z)) (given_to v j y ∙ q ∙ sym (given_to v k z));
         plus_long = omega (arith, put.pluses.long);
         minus_long = omega (arith, put.minuses.long);
-        marks_long = x.current_long;
-        amounts_long = x.amounts_long;
+        marks_long = c;
+        amounts_long = a;
         small = small;
       }
 
-  module _ {plus' minus' current' amounts' : List ℕ} (h : Heavy n e links plus minus current amounts plus' minus' current' amounts') where
+  module _ {amounts plus' minus' current' amounts' : List ℕ} (h : Heavy n e links plus minus current amounts plus' minus' current' amounts') where
     proves : Proves (survey_of n e groups links) (weights (survey_of n e groups links) (marked_set current)) (amounts_of amounts') plus' minus' current'
     proves = h.proves (survey_of n e groups links) (survey_given n e groups links) (weights (survey_of n e groups links) (marked_set current)) round_weighed
 
@@ -131,32 +115,17 @@ module _ {n e d l : ℕ} {groups links current amounts plus₀ minus₀ plus min
     unfolding survey_at
     none_weighs d =
         none_zero x.sound.inside (weights (survey_of n e groups links) (marked_set current)) (marked_set current') proves.drains proves.dry
-        (λ g l. sym (proves.balanced.above g l) ∙ zero (λ p. d (record { group = g; below = l; above = p })))
-      where
-        zero : {y : ℕ} → (0 < y → ⊥) → y ≡ 0
-        zero q = omega arith
+        (λ g l. let none : 0 < get_or plus' g 0 → ⊥ = λ p. d (record { group = g; below = l; above = p }) in omega (arith, proves.balanced.above g l))
 
-    pub round_law : (more : Bool) → Tells (AnyAbove n plus') more → Round n e groups links current amounts more current' amounts'
+    pub round_law : (more : Bool) → Tells (AnyAbove n plus') more → Round n e groups links current more current' amounts'
     round_law more t =
         record {
-          worked =
-              record {
-                small = h.small;
-                bits = h.bits;
-                kept =
-                    record {
-                      current_rest = h.marks_rest;
-                      amounts_rest = h.amounts_rest;
-                      current_long = h.marks_long;
-                      amounts_long = h.amounts_long;
-                    };
-              };
+          worked = record { small = h.small; bits = h.bits };
           round = record {
             heaviest = proves.heaviest;
             drains = proves.drains;
             dry = proves.dry;
             further = λ y. more_weighs (told more y t);
-            last = λ z. none_weighs
-                (told_not more z t);
+            last = λ z. none_weighs (told_not more z t);
           };
         }

@@ -7,7 +7,7 @@ ghost use Rattle.survey.specs.Promises.{Filled};
 ghost use Rattle.words.specs.Words.{with_long_word};
 ghost use Rattle.copies.specs.Copies.{both_words, Fillable};
 
-use entries::{Pair, pair_at};
+use entries::{Entries, Pair};
 use survey::stands::Stand;
 use words::put_long_word;
 
@@ -24,14 +24,16 @@ fn put_pair(list: &mut [u8], k: usize, pair: Pair)
 }
 
 // The first count pairs of the blocks from block start on.
+// Kept: file and start are not an `Entries`, since of a slice in a struct the proof is not told that its bytes are below 256, and the bytes are what is copied.
 pub fn fill(list: &mut [u8], count: usize, file: &[u8], start: usize)
     requires { Fillable list.old count file.now start }
     ensures { Filled list.old list.new count file.now (in_blocks start) }
 {
-    let mut k = 0;
-    while k < count {
-        let pair = pair_at(file, Stand::Blocks(start), k);
-        put_pair(list, k, pair);
-        k += 1;
+    let pairs = Entries {
+        bytes: file,
+        stand: Stand::Blocks(start),
+    };
+    for k in 0..count {
+        put_pair(list, k, pairs.pair(k));
     }
 }

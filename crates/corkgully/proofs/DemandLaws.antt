@@ -5,10 +5,9 @@ use mathlib.Core.Path.{◌≡◌, refl, sym, ap, subst, ◌∙◌}
 use mathlib.Core.Logic.{◌⊎◌, inl, inr}
 use mathlib.Core.List.{List, [], ◌∷◌}
 use lib.ListN.{length}
+use Rattle.std.specs.Prelude.{Result, Ok, Err}
+use Rattle.survey.specs.declared.answers.Size.{Size}
 use Rattle.survey.specs.declared.answers.Refusal.{Refusal}
-use Rattle.survey.specs.declared.answers.Reading.{Reading}
-use Rattle.survey.specs.declared.answers.Choice.{Choice}
-use Rattle.survey.specs.declared.answers.Judgement.{Judgement}
 use Rattle.survey.specs.Limits.{group_limit, link_limit}
 use Rattle.survey.specs.Survey.{Survey}
 use Rattle.survey.specs.Pick.{IsPick}
@@ -16,7 +15,7 @@ use Rattle.survey.specs.Words.{entries, survey_of, marked_set}
 use Rattle.survey.specs.SurveyFile.{n_in, e_in, survey_in}
 use Rattle.survey.specs.Refusals.{fine, refused, Fault, Clear, Given, First, AllClear, Answers}
 use Rattle.survey.specs.Faults.{OneShort, reader_faults, chooser_faults, checker_faults, Admitted, AdmittedFile}
-use Rattle.survey.specs.Answers.{refusal_number, reading_number, choice_number, judgement_verdict, judgement_number}
+use Rattle.survey.specs.Answers.{refusal_number, reading_number, choice_number, verdict_of, judgement_number}
 use Rattle.survey.specs.Promises.{Chooses, ReadLists, ReaderSays, ChooserSays, CheckerSays}
 use Rattle.survey.proofs.Unique.{pick_one}
 use Rattle.survey.proofs.Verdicts.{fine_clear, answers_one, none_refused}
@@ -43,7 +42,7 @@ same_refusal q = cc
 -- a refusal is the table's first fault
 first_fault : (fs : List Fault) {r : Refusal} {x : ℕ} → Answers fs (refused r) → x ≡ refusal_number r → Refuses fs x
 unfolding First AllClear
-first_fault [] a e = absurd (let z : ◌≡◌ {A = ℕ} 0 1 = cc a.first in omega arith)
+first_fault [] a e = absurd (cc a.first)
 first_fault (f ∷ fs) {r} {x} a e = at (look f fs a) (λ y. first_fault fs y e)
   where
     at : Given f (refused r) ⊎ (Clear f × Answers fs (refused r)) → (Answers fs (refused r) → Refuses fs x) → Refuses (f ∷ fs) x
@@ -78,8 +77,8 @@ pick_given :
 pick_given {rounds = rounds} e c = record { rounds = rounds; is = e; counted = c.counted; pick = c.pick; only = λ S p. pick_one p c.pick }
 
 survey_given :
-    {f groups links groups' links' : List ℕ} {n e x : ℕ} → x ≡ reading_number (Reading.Survey n e)
-    → ReadLists f groups links (Reading.Survey n e) groups' links' → GivesSurvey f x groups' links'
+    {f groups links groups' links' : List ℕ} {n e x : ℕ} → x ≡ reading_number (Ok (record { n = n; e = e }))
+    → ReadLists f groups links (Ok (record { n = n; e = e })) groups' links' → GivesSurvey f x groups' links'
 survey_given {f} {n = n} {e = e} {x = x} q l = record { is = number q l.0 l.1; survey = filled_survey l.2 l.3 }
   where
     number : x ≡ 65_536 * n + 4_294_967_296 * e → n ≡ n_in f → e ≡ e_in f → x ≡ 65_536 * n_in f + 4_294_967_296 * e_in f
@@ -90,30 +89,30 @@ pub reader_outcome :
     → Outcome (reader_faults f groups links) x ((groups' ≡ groups) × (links' ≡ links)) (GivesSurvey f x groups' links')
 reader_outcome {f} {groups} {links} {groups'} {links'} {x} a = at a.reading a.is a.says
   where
-    at : (r : Reading) → x ≡ reading_number r → ReaderSays f groups links r groups' links'
+    at : (r : Result Size Refusal) → x ≡ reading_number r → ReaderSays f groups links r groups' links'
         → Outcome (reader_faults f groups links) x ((groups' ≡ groups) × (links' ≡ links)) (GivesSurvey f x groups' links')
-    at (Reading.Refused r) e s = refuses (first_fault (reader_faults f groups links) s.verdict e) s.lists
-    at (Reading.Survey n k) e s = gives (fine_clear (reader_faults f groups links) s.verdict) (survey_given e s.lists)
+    at (Err r) e s = refuses (first_fault (reader_faults f groups links) s.verdict e) s.lists
+    at (Ok size) e s = gives (fine_clear (reader_faults f groups links) s.verdict) (survey_given e s.lists)
 
 pub chooser_outcome :
     {n e : ℕ} {groups links marks amounts marks' amounts' : List ℕ} {x : ℕ} → ChooseNumber n e groups links marks amounts x marks' amounts'
     → Outcome (chooser_faults n e groups links marks amounts) x ((marks' ≡ marks) × (amounts' ≡ amounts)) (GivesPick (survey_of n e groups links) x marks')
 chooser_outcome {n} {e} {groups} {links} {marks} {amounts} {marks'} {amounts'} {x} a = at a.choice a.is a.says
   where
-    at : (r : Choice) → x ≡ choice_number r → ChooserSays n e groups links marks amounts r marks' amounts'
+    at : (r : Result ℕ Refusal) → x ≡ choice_number r → ChooserSays n e groups links marks amounts r marks' amounts'
         → Outcome (chooser_faults n e groups links marks amounts) x ((marks' ≡ marks) × (amounts' ≡ amounts)) (GivesPick (survey_of n e groups links) x marks')
-    at (Choice.Refused r) q s = refuses (first_fault (chooser_faults n e groups links marks amounts) s.verdict q) s.lists
-    at (Choice.Chosen rounds) q s = gives (fine_clear (chooser_faults n e groups links marks amounts) s.verdict) (pick_given q s.lists)
+    at (Err r) q s = refuses (first_fault (chooser_faults n e groups links marks amounts) s.verdict q) s.lists
+    at (Ok rounds) q s = gives (fine_clear (chooser_faults n e groups links marks amounts) s.verdict) (pick_given q s.lists)
 
 pub checker_outcome :
     {n e : ℕ} {groups links marks amounts : List ℕ} {x : ℕ} → CheckNumber n e groups links marks amounts x
     → Outcome (checker_faults n e groups links marks amounts) x (Unit {0}) (x ≡ 0)
 checker_outcome {n} {e} {groups} {links} {marks} {amounts} {x} a = at a.judgement a.is a.says
   where
-    at : (r : Judgement) → x ≡ judgement_number r → CheckerSays n e groups links marks amounts r
+    at : (r : Result (Unit {0}) Refusal) → x ≡ judgement_number r → CheckerSays n e groups links marks amounts r
         → Outcome (checker_faults n e groups links marks amounts) x (Unit {0}) (x ≡ 0)
-    at (Judgement.Refused r) q s = refuses (first_fault (checker_faults n e groups links marks amounts) s.verdict q) tt
-    at Judgement.Accepted q s = gives (fine_clear (checker_faults n e groups links marks amounts) s.verdict) q
+    at (Err r) q s = refuses (first_fault (checker_faults n e groups links marks amounts) s.verdict q) tt
+    at (Ok tt) q s = gives (fine_clear (checker_faults n e groups links marks amounts) s.verdict) q
 
 -- ---- 2
 
@@ -129,14 +128,14 @@ module _ {n e : ℕ} {groups links marks amounts marks' amounts' : List ℕ} {x 
       clear : AllClear (chooser_faults n e groups links marks amounts)
       clear = (record { none = λ k l o. long_enough groups links marks amounts long o }, admitted.clear)
 
-      at : (r : Choice) → x ≡ choice_number r → ChooserSays n e groups links marks amounts r marks' amounts' → GivesPick (survey_of n e groups links) x marks'
-      at (Choice.Refused r) q s = absurd (none_refused (chooser_faults n e groups links marks amounts) clear s.verdict refl)
-      at (Choice.Chosen rounds) q s = pick_given q s.lists
+      at : (r : Result ℕ Refusal) → x ≡ choice_number r → ChooserSays n e groups links marks amounts r marks' amounts' → GivesPick (survey_of n e groups links) x marks'
+      at (Err r) q s = absurd (none_refused (chooser_faults n e groups links marks amounts) clear s.verdict refl)
+      at (Ok rounds) q s = pick_given q s.lists
 
-  chosen : Succeeds x → (r : Choice) → x ≡ choice_number r → ChooserSays n e groups links marks amounts r marks' amounts'
-      → (k : ℕ) × ChooserSays n e groups links marks amounts (Choice.Chosen k) marks' amounts'
-  chosen z (Choice.Refused r) q s = absurd (no_success r (choice_small (Choice.Refused r) s) q z)
-  chosen z (Choice.Chosen k) q s = (k, s)
+  chosen : Succeeds x → (r : Result ℕ Refusal) → x ≡ choice_number r → ChooserSays n e groups links marks amounts r marks' amounts'
+      → (k : ℕ) × ChooserSays n e groups links marks amounts (Ok k) marks' amounts'
+  chosen z (Err r) q s = absurd (no_success r (choice_small (Err r) s) q z)
+  chosen z (Ok k) q s = (k, s)
 
   pub picked_admitted : Succeeds x → Admitted (survey_of n e groups links)
   picked_admitted z = (call_clear groups links marks amounts n e (chosen z a.choice a.is a.says).1.verdict).1
@@ -156,18 +155,18 @@ module _ {f groups links groups' links' : List ℕ} {x : ℕ} (a : ReadNumber f 
       clear : AllClear (reader_faults f groups links)
       clear = (record { none = λ k m o. short o }, admitted.clear)
 
-      at : (r : Reading) → x ≡ reading_number r → ReaderSays f groups links r groups' links'
+      at : (r : Result Size Refusal) → x ≡ reading_number r → ReaderSays f groups links r groups' links'
           → GivesSurvey f x groups' links' × ((length groups' ≡ length groups) × (length links' ≡ length links))
-      at (Reading.Refused r) q s = absurd (none_refused (reader_faults f groups links) clear s.verdict refl)
-      at (Reading.Survey n e) q s = (survey_given q s.lists, (s.lists.2.long, s.lists.3.long))
+      at (Err r) q s = absurd (none_refused (reader_faults f groups links) clear s.verdict refl)
+      at (Ok size) q s = (survey_given q s.lists, (s.lists.2.long, s.lists.3.long))
 
   pub read_admitted_by : Bytes f → Succeeds x → AdmittedFile f
   unfolding AllClear
   read_admitted_by small z = at a.reading a.is a.says
     where
-      at : (r : Reading) → x ≡ reading_number r → ReaderSays f groups links r groups' links' → AdmittedFile f
-      at (Reading.Refused r) q s = absurd (no_success r (reading_small (Reading.Refused r) small s) q z)
-      at (Reading.Survey n e) q s = record { clear = (fine_clear (reader_faults f groups links) s.verdict).1 }
+      at : (r : Result Size Refusal) → x ≡ reading_number r → ReaderSays f groups links r groups' links' → AdmittedFile f
+      at (Err r) q s = absurd (no_success r (reading_small (Err r) small s) q z)
+      at (Ok size) q s = record { clear = (fine_clear (reader_faults f groups links) s.verdict).1 }
 
 pub read_admitted : {f groups links groups' links' : List ℕ} {x : ℕ} → Bytes f → ReadNumber f groups links x groups' links' → Succeeds x → AdmittedFile f
 read_admitted small a z = read_admitted_by a small z
@@ -201,16 +200,16 @@ module _ {n e : ℕ} {groups links marks amounts : List ℕ} {x : ℕ} (a : Chec
   fine_zero : Answers (checker_faults n e groups links marks amounts) fine → x ≡ 0
   fine_zero b = at a.judgement a.is (answers_one (checker_faults n e groups links marks amounts) a.says.verdict b)
     where
-      at : (r : Judgement) → x ≡ judgement_number r → judgement_verdict r ≡ fine → x ≡ 0
-      at (Judgement.Refused r) q z = let w : ◌≡◌ {A = ℕ} 0 1 = cc in absurd (omega arith)
-      at Judgement.Accepted q z = q
+      at : (r : Result (Unit {0}) Refusal) → x ≡ judgement_number r → verdict_of r ≡ fine → x ≡ 0
+      at (Err r) q z = cc
+      at (Ok tt) q z = q
 
-  zero_accepted : x ≡ 0 → CheckerSays n e groups links marks amounts Judgement.Accepted
+  zero_accepted : x ≡ 0 → CheckerSays n e groups links marks amounts (Ok tt)
   zero_accepted z = at a.judgement a.is a.says
     where
-      at : (r : Judgement) → x ≡ judgement_number r → CheckerSays n e groups links marks amounts r → CheckerSays n e groups links marks amounts Judgement.Accepted
-      at (Judgement.Refused r) q s = absurd (no_success r (judgement_small (Judgement.Refused r) s) q (rw z refl))
-      at Judgement.Accepted q s = s
+      at : (r : Result (Unit {0}) Refusal) → x ≡ judgement_number r → CheckerSays n e groups links marks amounts r → CheckerSays n e groups links marks amounts (Ok tt)
+      at (Err r) q s = absurd (no_success r (judgement_small (Err r) s) q (rw z refl))
+      at (Ok tt) q s = s
 
   pub acceptable_zero : Acceptable n e groups links marks amounts → x ≡ 0
   acceptable_zero y = fine_zero (accepting.acceptable_accepted n e groups links marks amounts y).verdict

@@ -2,9 +2,9 @@
 use Prim.Native.Nat.{ℕ, ◌^◌}
 use native.Mathlib.Omega.{arith}
 use mathlib.Core.List.{List}
-use Rattle.survey.specs.declared.answers.Reading.{Reading}
-use Rattle.survey.specs.declared.answers.Choice.{Choice}
-use Rattle.survey.specs.declared.answers.Judgement.{Judgement}
+use Rattle.std.specs.Prelude.{Result, Ok, Err}
+use Rattle.survey.specs.declared.answers.Refusal.{Refusal}
+use Rattle.survey.specs.declared.answers.Size.{Size}
 use Rattle.survey.specs.Refusals.{AllClear}
 use Rattle.survey.specs.Faults.{file_faults, reader_faults}
 use Rattle.survey.specs.Promises.{ReaderSays, ChooserSays, CheckerSays}
@@ -20,27 +20,27 @@ use Rattle.calls.proofs.CallLaws.{admitted_call}
 use Rattle.reader.proofs.FileLaws.{clear_range}
 use Rattle.reader.proofs.Readings.{blocks_clear}
 
-pub reading_small : {f groups links : List ℕ} (r : Reading) {groups' links' : List ℕ} → Bytes f → ReaderSays f groups links r groups' links' → SmallReading r
+pub reading_small : {f groups links : List ℕ} (r : Result Size Refusal) {groups' links' : List ℕ} → Bytes f → ReaderSays f groups links r groups' links' → SmallReading r
 unfolding AllClear
-reading_small {f} {groups} {links} (Reading.Refused r) b says =
+reading_small {f} {groups} {links} (Err r) b says =
     let small : SmallBy (2 ^ 32) r = reader_small f groups links (omega (arith, word_below b 8)) (omega (arith, word_below b 12)) says.verdict in
     record { number = small.number; above = small.above; place = omega (arith, small.place) }
-reading_small {f} {groups} {links} (Reading.Survey n e) b says =
+reading_small {f} {groups} {links} (Ok size) b says =
     let fits = clear_range f (blocks_clear f (clear_fine (file_faults f) (fine_clear (reader_faults f groups links) says.verdict).1)) in
     record { groups = omega (arith, says.lists.0, fits.groups); links = omega (arith, says.lists.1, fits.links) }
 
 pub choice_small :
-    {n e : ℕ} {groups links marks amounts : List ℕ} (r : Choice) {marks' amounts' : List ℕ} → ChooserSays n e groups links marks amounts r marks' amounts'
+    {n e : ℕ} {groups links marks amounts : List ℕ} (r : Result ℕ Refusal) {marks' amounts' : List ℕ} → ChooserSays n e groups links marks amounts r marks' amounts'
     → SmallChoice r
-choice_small {n} {e} {groups} {links} {marks} {amounts} (Choice.Refused r) says =
+choice_small {n} {e} {groups} {links} {marks} {amounts} (Err r) says =
     let small : SmallBy (2 ^ 32) r = chooser_small n e groups links marks amounts says.verdict in
     record { number = small.number; above = small.above; place = omega (arith, small.place) }
-choice_small {n} {e} {groups} {links} {marks} {amounts} (Choice.Chosen rounds) says =
+choice_small {n} {e} {groups} {links} {marks} {amounts} (Ok rounds) says =
     let call : AdmittedCall n e groups links marks amounts = admitted_call groups links marks amounts n e says.verdict in
     omega (arith, rounds_few call.sound.some_dead says.lists.counted, call.sound.groups)
 
-pub judgement_small : {n e : ℕ} {groups links marks amounts : List ℕ} (r : Judgement) → CheckerSays n e groups links marks amounts r → SmallJudgement r
-judgement_small {n} {e} {groups} {links} {marks} {amounts} (Judgement.Refused r) says =
+pub judgement_small : {n e : ℕ} {groups links marks amounts : List ℕ} (r : Result (Unit {0}) Refusal) → CheckerSays n e groups links marks amounts r → SmallJudgement r
+judgement_small {n} {e} {groups} {links} {marks} {amounts} (Err r) says =
     let small : SmallBy (2 ^ 32) r = checker_small n e groups links marks amounts says.verdict in
     record { number = small.number; above = small.above; place = omega (arith, small.place) }
-judgement_small Judgement.Accepted says = tt
+judgement_small (Ok tt) says = tt

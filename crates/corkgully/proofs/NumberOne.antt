@@ -4,10 +4,9 @@ use native.Mathlib.Omega.{arith}
 use mathlib.Core.Path.{◌≡◌, refl, ap, sym, subst, ◌∙◌}
 use mathlib.Core.List.{List}
 use lib.ListN.{length, get_or}
+use Rattle.std.specs.Prelude.{Result, Ok, Err}
+use Rattle.survey.specs.declared.answers.Size.{Size}
 use Rattle.survey.specs.declared.answers.Refusal.{Refusal}
-use Rattle.survey.specs.declared.answers.Reading.{Reading}
-use Rattle.survey.specs.declared.answers.Choice.{Choice}
-use Rattle.survey.specs.declared.answers.Judgement.{Judgement}
 use Rattle.survey.specs.Limits.{entry_bytes}
 use Rattle.survey.specs.Words.{stands_at, lent, amounts_of}
 use Rattle.survey.specs.Answers.{reading_number, choice_number, judgement_number}
@@ -27,7 +26,7 @@ pub record SameAnswer (x x' : ℕ) (g g' l l' : List ℕ) : Type 0 where
 pub read_number_one : {f groups links : List ℕ} {x x' : ℕ} {g g' l l' : List ℕ} → ReadNumber f groups links x g l → ReadNumber f groups links x' g' l' → SameAnswer x x' g g' l l'
 read_number_one a b =
     let same = reader_one a.says b.says in
-    record { answer = a.is ∙ ap (λ (r : Reading). reading_number r) same.answer ∙ sym b.is; groups = same.groups; links = same.links }
+    record { answer = a.is ∙ ap (λ (r : Result Size Refusal). reading_number r) same.answer ∙ sym b.is; groups = same.groups; links = same.links }
 
 -- The same number and the same marks; of the amounts all that is settled: the same past entry e, the same everywhere after a refusal, and the same
 -- everywhere once the first e are. Those are the one exception: there can be several that pass the balance rule.
@@ -44,7 +43,7 @@ pub choose_number_one :
     → ChooseNumber n e groups links marks amounts x' m' a' → SameChosen e x x' m m' a a'
 choose_number_one {n} {e} {groups} {links} {marks} {amounts} {x} {x'} {m} {m'} {a} {a'} p q =
     record {
-      answer = p.is ∙ ap (λ (r : Choice). choice_number r) same.answer ∙ sym q.is;
+      answer = p.is ∙ ap (λ (r : Result ℕ Refusal). choice_number r) same.answer ∙ sym q.is;
       marks = same.marks;
       long = same.long;
       rest = same.rest;
@@ -55,9 +54,9 @@ choose_number_one {n} {e} {groups} {links} {marks} {amounts} {x} {x'} {m} {m'} {
     same : SameChoice e p.choice q.choice m m' a a'
     same = chooser_one p.says q.says
 
-    refused : (r : Choice) → 0 < x % 65_536 → x ≡ choice_number r → ((y : Refusal) → r ≡ Choice.Refused y → a ≡ a') → a ≡ a'
-    refused (Choice.Refused y) h z go = go y refl
-    refused (Choice.Chosen k) h z go = absurd (let low : choice_number (Choice.Chosen k) % 65_536 ≡ 0 = omega arith in omega (arith, ap (λ (y : ℕ). y % 65_536) z))
+    refused : (r : Result ℕ Refusal) → 0 < x % 65_536 → x ≡ choice_number r → ((y : Refusal) → r ≡ Err y → a ≡ a') → a ≡ a'
+    refused (Err y) h z go = go y refl
+    refused (Ok k) h z go = absurd (let low : choice_number (Ok k) % 65_536 ≡ 0 = omega arith in omega (arith, ap (λ (y : ℕ). y % 65_536) z))
 
     byte : Bytes a → Bytes a' → ((k : ℕ) → k < e → amounts_of a k ≡ amounts_of a' k) → (i : ℕ) → i < entry_bytes * e → get_or a i 0 ≡ get_or a' i 0
     byte b b' h i l =
@@ -67,7 +66,7 @@ choose_number_one {n} {e} {groups} {links} {marks} {amounts} {x} {x'} {m} {m'} {
 
 pub check_number_one : {n e : ℕ} {groups links marks amounts : List ℕ} {x x' : ℕ} → CheckNumber n e groups links marks amounts x → CheckNumber n e groups links marks amounts x'
     → x ≡ x'
-check_number_one a b = a.is ∙ ap (λ (r : Judgement). judgement_number r) (checker_one a.says b.says) ∙ sym b.is
+check_number_one a b = a.is ∙ ap (λ (r : Result (Unit {0}) Refusal). judgement_number r) (checker_one a.says b.says) ∙ sym b.is
 
 -- ---- The answer is read back from its number: two answers with the same number are the same answer, whatever calls they answer. So no success has a
 -- refusal's number, and n, e and the count of rounds are read back.

@@ -5,7 +5,15 @@ use mathlib.Core.Path.{◌≡◌, ◌∙◌, sym}
 use Rattle.survey.specs.Survey as survey
 use Rattle.counts.specs.declared.Group.{Group}
 use Rattle.counts.specs.declared.Weight.{Weight}
-use Rattle.counts.specs.Counts.{GroupIs, WeightIs}
+use Rattle.counts.specs.Counts.{group_of, GroupIs, CountsFit, WeightIs}
+
+-- a value that stands for a group: the group is what the value stands for
+pub group_is : {r : Group} {g : survey.Group} → GroupIs r g → group_of r ≡ g
+group_is a = λ i. record { dead = a.dead i; live = a.live i }
+
+-- .. and it is as small
+pub counts_read : {r : Group} {g : survey.Group} → GroupIs r g → CountsFit g → CountsFit (group_of r)
+counts_read a fit = rw (group_is a) fit
 
 pub group_one : {r r' : Group} {g : survey.Group} → GroupIs r g → GroupIs r' g → r ≡ r'
 group_one a b =

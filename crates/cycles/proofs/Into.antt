@@ -16,7 +16,8 @@ use Rattle.survey.specs.Faults.{bad_end, bad_order}
 use Rattle.survey.proofs.SumOrder.{sum_at_most}
 use Rattle.survey.proofs.Sums.{sum_cong, sum_zero, term_le}
 use Rattle.survey.specs.Sound.{Inside}
-use Rattle.cycles.specs.Halves.{half, low_of, Blank, Put, Noted, Kept}
+use Rattle.cycles.specs.declared.tallies.Tally.{Tally}
+use Rattle.cycles.specs.Tallies.{tally_limit, count_of, Blank, Put, Noted, Kept}
 use Rattle.cycles.specs.Peeling.{into, Indexed, Tallied}
 use Rattle.cycles.proofs.Members.{sum_one, sum_some, one_at_most}
 
@@ -117,23 +118,23 @@ counts_one : (s : Survey) (k : ℕ) → k < s.e → (g : ℕ) → into s (λ j. 
 counts_one s k l = into_less s (λ j. leb k j) (λ j. leb (k + 1) j) k l (le-leb k k (omega arith)) (lt-leb (k + 1) k (omega arith)) (λ j m d. one_further k j d)
 
 module _ {s : Survey} where
-  pub tally_none : {w : List ℕ} → Blank w → Tallied s w s.e
+  pub tally_none : {w : List Tally} → Blank w → Tallied s w s.e
   tally_none b =
       record {
-        low = λ g. b.zero g ∙ sym (into_none s (λ j. leb s.e j) (λ k l. lt-leb s.e k l) g);
+        count = λ g. b.zero g ∙ sym (into_none s (λ j. leb s.e j) (λ k l. lt-leb s.e k l) g);
         index = record { early = λ j a b. absurd (omega arith); run = λ j a b. absurd (omega arith) };
       }
 
-  pub tally_at : {w : List ℕ} {m k : ℕ} → m ≡ k → Tallied s w m → Tallied s w k
+  pub tally_at : {w : List Tally} {m k : ℕ} → m ≡ k → Tallied s w m → Tallied s w k
   tally_at {w} z t = subst (λ (x : ℕ). Tallied s w x) z t
 
   -- No more links come to a group than there are.
-  pub tally_small : {w : List ℕ} {k : ℕ} → s.e ≤ link_limit → Tallied s w k → (g : ℕ) → low_of w g + 1 < half
-  tally_small {w} {k} h t g = omega (arith, t.low g, into_at_most s (λ j. leb k j) g)
+  pub tally_small : {w : List Tally} {k : ℕ} → s.e ≤ link_limit → Tallied s w k → (g : ℕ) → count_of w g + 1 < tally_limit
+  tally_small {w} {k} h t g = omega (arith, t.count g, into_at_most s (λ j. leb k j) g)
 
   module _ (k : ℕ) (l : k < s.e) where
-    pub index_next : {high high' : ℕ → ℕ} → Clear (bad_order s) → Indexed s high (k + 1) → Put high high' (s.link k).from k → Indexed s high' k
-    index_next {high} {high'} c ix p =
+    pub index_next : {first first' : ℕ → ℕ} → Clear (bad_order s) → Indexed s first (k + 1) → Put first first' (s.link k).from k → Indexed s first' k
+    index_next {first} {first'} c ix p =
         record { early = λ j a b. early j a b (ℕ_discrete (s.link j).from (s.link k).from); run = λ j a b i f t. run j a b i f t (ℕ_discrete (s.link j).from (s.link k).from) }
       where
         later : (j : ℕ) → k ≤ j → ((s.link j).from ≡ (s.link k).from → ⊥) → k + 1 ≤ j
@@ -146,30 +147,30 @@ module _ {s : Survey} where
             at (yes e) = absurd (d (rw e))
             at (no d) = over d
 
-        early : (j : ℕ) → k ≤ j → j < s.e → Dec ((s.link j).from ≡ (s.link k).from) → high' (s.link j).from ≤ j
+        early : (j : ℕ) → k ≤ j → j < s.e → Dec ((s.link j).from ≡ (s.link k).from) → first' (s.link j).from ≤ j
         early j a b (yes e) = rw (e, p.at) a
         early j a b (no d) = rw (p.other (s.link j).from d) (ix.early j (later j a d) b)
 
-        run : (j : ℕ) → k ≤ j → j < s.e → (i : ℕ) → high' (s.link j).from ≤ i → i ≤ j → Dec ((s.link j).from ≡ (s.link k).from) → (s.link i).from ≡ (s.link j).from
+        run : (j : ℕ) → k ≤ j → j < s.e → (i : ℕ) → first' (s.link j).from ≤ i → i ≤ j → Dec ((s.link j).from ≡ (s.link k).from) → (s.link i).from ≡ (s.link j).from
         run j a b i f t (yes e) =
             let after : k ≤ i = rw (e, p.at) at f in
             omega (arith, froms_ascend s c k i after (omega arith), froms_ascend s c i j t b)
         run j a b i f t (no d) = ix.run j (later j a d) b i (rw (p.other (s.link j).from d) at f) t
 
-    pub tally_next : {w w' : List ℕ} {m : ℕ} → m ≡ k + 1 → Clear (bad_order s) → Tallied s w m → Noted w w' (s.link k).from (s.link k).to k → Tallied s w' k
-    tally_next {w} {w'} z c u p = record { low = λ g. at g (ℕ_discrete g (s.link k).to); index = index_next c t.index p.high }
+    pub tally_next : {w w' : List Tally} {m : ℕ} → m ≡ k + 1 → Clear (bad_order s) → Tallied s w m → Noted w w' (s.link k).from (s.link k).to k → Tallied s w' k
+    tally_next {w} {w'} z c u p = record { count = λ g. at g (ℕ_discrete g (s.link k).to); index = index_next c t.index p.first }
       where
         t : Tallied s w (k + 1)
         t = tally_at z u
 
-        at : (g : ℕ) → Dec (g ≡ (s.link k).to) → low_of w' g ≡ into s (λ j. leb k j) g
+        at : (g : ℕ) → Dec (g ≡ (s.link k).to) → count_of w' g ≡ into s (λ j. leb k j) g
         at g (yes e) =
             let one : only (eqb (s.link k).to g) 1 ≡ 1 = rw (eq-eqb (s.link k).to g (sym e)) in
-            let here : low_of w' g ≡ low_of w g + 1 = rw e p.low.at in
-            omega (arith, counts_one s k l g, t.low g)
+            let here : count_of w' g ≡ count_of w g + 1 = rw e p.count.at in
+            omega (arith, counts_one s k l g, t.count g)
         at g (no d) =
             let none : only (eqb (s.link k).to g) 1 ≡ 0 = rw (ne_eqb (s.link k).to g (λ z. d (sym z))) in
-            omega (arith, counts_one s k l g, t.low g, p.low.other g d)
+            omega (arith, counts_one s k l g, t.count g, p.count.other g d)
 
-pub indexed_kept : {s : Survey} {high high' : ℕ → ℕ} {k : ℕ} → Kept high high' → Indexed s high k → Indexed s high' k
-indexed_kept {s} {high} {high'} {k} e ix = subst (λ (f : ℕ → ℕ). Indexed s f k) (λ i h. sym (e.at h) i) ix
+pub indexed_kept : {s : Survey} {first first' : ℕ → ℕ} {k : ℕ} → Kept first first' → Indexed s first k → Indexed s first' k
+indexed_kept {s} {first} {first'} {k} e ix = subst (λ (f : ℕ → ℕ). Indexed s f k) (λ i h. sym (e.at h) i) ix

@@ -1,6 +1,6 @@
 -- The laws behind the cycle test.
 pub mod ListLaws
-pub mod HalfLaws
+pub mod TallyLaws
 pub mod Members
 pub mod Threads
 pub mod Into

@@ -10,7 +10,7 @@ use borrow.Author.Tests.{eqb-true, eq-eqb, ne_eqb, le-leb}
 use Rattle.survey.specs.Survey.{Survey}
 use Rattle.survey.specs.Sets.{Set, In, Out, only}
 use Rattle.survey.proofs.Totals.{by_test, not_both}
-use Rattle.cycles.specs.Halves.{Settled, pushed, waiting, Lowered}
+use Rattle.cycles.specs.Tallies.{Settled, pushed, waiting, Lowered}
 use Rattle.cycles.specs.Peeling.{into, left, Threaded, without, Indexed, Peels, none_owed, owed_from}
 use Rattle.cycles.proofs.Members.{joined, joined_self, joined_other, joined_in, joined_out, without_in, without_other, members_differ, size_joined}
 use Rattle.cycles.proofs.Threads.{thread_moved, thread_push, thread_top}
@@ -25,7 +25,7 @@ from_peeled s P k l z =
     (λ o. absurd (omega (arith, into_has s (left s P none_owed) k l (rw o))))
 
 -- The top of the stack is peeled; its links, which stand from its first on, are owed then.
-module _ {s : Survey} {low : ℕ → ℕ} {top c : ℕ} (p : Peels s low top c none_owed) {high : ℕ → ℕ} (ix : Indexed s high 0) (g : ℕ) (t : top ≡ g + 1) where
+module _ {s : Survey} {count : ℕ → ℕ} {top c : ℕ} (p : Peels s count top c none_owed) {first : ℕ → ℕ} (ix : Indexed s first 0) (g : ℕ) (t : top ≡ g + 1) where
   P : Set
   P = p.peeled
 
@@ -37,17 +37,17 @@ module _ {s : Survey} {low : ℕ → ℕ} {top c : ℕ} (p : Peels s low top c n
   fresh = p.apart g ready
 
   owes : ℕ → Bool
-  owes = owed_from s g (high g)
+  owes = owed_from s g (first g)
 
   -- No count changes: a link of g was left, and is owed now.
   alike : (h : ℕ) → into s (left s P none_owed) h ≡ into s (left s (joined g P) owes) h
   unfolding owes
   alike = into_cong s (left s P none_owed) (left s (joined g P) owes) (λ k l. at k l (ℕ_discrete (s.link k).from g))
     where
-      at : (k : ℕ) → k < s.e → Dec ((s.link k).from ≡ g) → left s P none_owed k ≡ left s (joined g P) (owed_from s g (high g)) k
+      at : (k : ℕ) → k < s.e → Dec ((s.link k).from ≡ g) → left s P none_owed k ≡ left s (joined g P) (owed_from s g (first g)) k
       at k l (yes e) =
-          let first : leb (high g) k ≡ true = le-leb (high g) k (subst (λ (h : ℕ). high h ≤ k) e (ix.early k (omega arith) l)) in
-          rw (e, eq-eqb g g refl, fresh, first)
+          let after : leb (first g) k ≡ true = le-leb (first g) k (subst (λ (h : ℕ). first h ≤ k) e (ix.early k (omega arith) l)) in
+          rw (e, eq-eqb g g refl, fresh, after)
       at k l (no d) = rw (ne_eqb (s.link k).from g d)
 
   ranks : ℕ → ℕ
@@ -79,13 +79,13 @@ module _ {s : Survey} {low : ℕ → ℕ} {top c : ℕ} (p : Peels s low top c n
       at (yes e) = rw (kept, e, ranks_self) (p.below (s.link k).from start)
       at (no d) = rw (kept, ranks_other (s.link k).to d) (p.rises k l (rw (joined_other g P (s.link k).to d) at i))
 
-  pub peel_one : {next : ℕ} → next ≡ low g → Peels s low next (c + 1) (owed_from s g (high g))
+  pub peel_one : {next : ℕ} → next ≡ count g → Peels s count next (c + 1) (owed_from s g (first g))
   unfolding P owes
   peel_one {next} under =
       record {
         peeled = joined g P;
         ready = without g p.ready;
-        thread = subst (λ (x : ℕ). Threaded low (without g p.ready) x) (sym under) (thread_top g t p.thread).1;
+        thread = subst (λ (x : ℕ). Threaded count (without g p.ready) x) (sym under) (thread_top g t p.thread).1;
         inside = λ h i. p.inside h (without_in g p.ready h i).1;
         apart = λ h i. let w = without_in g p.ready h i in joined_other g P h w.0 ∙ p.apart h w.1;
         waits = λ h l o r.
@@ -105,16 +105,16 @@ module _ {s : Survey} {low : ℕ → ℕ} {top c : ℕ} (p : Peels s low top c n
       at h i (yes e) = rw (e, ranks_self) (omega arith)
       at h i (no d) = rw (ranks_other h d) (omega (arith, p.below h (rw (joined_other g P h d) at i)))
 
-      starts : (k : ℕ) → owed_from s g (high g) k ≡ true → (s.link k).from ≡ g
+      starts : (k : ℕ) → owed_from s g (first g) k ≡ true → (s.link k).from ≡ g
       starts k = both (eqb (s.link k).from g) refl
         where
-          both : (u : Bool) → eqb (s.link k).from g ≡ u → (u && leb (high g) k) ≡ true → (s.link k).from ≡ g
+          both : (u : Bool) → eqb (s.link k).from g ≡ u → (u && leb (first g) k) ≡ true → (s.link k).from ≡ g
           both true e o = eqb-true (s.link k).from g e
           both false e o = absurd (not_both o refl)
 
 -- ---- one link
 
-module _ {s : Survey} {low : ℕ → ℕ} {top c : ℕ} {owed : ℕ → Bool} (p : Peels s low top c owed) (k : ℕ) (l : k < s.e) (below : (s.link k).to < s.n) (o : owed k ≡ true) where
+module _ {s : Survey} {count : ℕ → ℕ} {top c : ℕ} {owed : ℕ → Bool} (p : Peels s count top c owed) (k : ℕ) (l : k < s.e) (below : (s.link k).to < s.n) (o : owed k ≡ true) where
   P₁ : Set
   P₁ = p.peeled
 
@@ -138,7 +138,7 @@ module _ {s : Survey} {low : ℕ → ℕ} {top c : ℕ} {owed : ℕ → Bool} (p
   unready = by_test (p.ready g₁) (λ i. absurd (omega (arith, was, p.free g₁ i))) (λ z. z)
 
   -- The group at the link's end has a count.
-  pub owed_counts : 0 < low (s.link k).to
+  pub owed_counts : 0 < count (s.link k).to
   unfolding g₁ P₁
   owed_counts = (p.waits g₁ below unpeeled unready).1
 
@@ -167,11 +167,11 @@ module _ {s : Survey} {low : ℕ → ℕ} {top c : ℕ} {owed : ℕ → Bool} (p
     unfolding P₁
     freed' h i = omega (arith, less h, p.freed h i)
 
-    pub lower_one : {low' : ℕ → ℕ} {r : ℕ} → Lowered low low' (s.link k).to top r → Peels s low' r c owed'
+    pub lower_one : {count' : ℕ → ℕ} {r : ℕ} → Lowered count count' (s.link k).to top r → Peels s count' r c owed'
     unfolding P₁ g₁
-    lower_one {low'} {r} lo = go lo.settled
+    lower_one {count'} {r} lo = go lo.settled
       where
-        counts : low g₁ ≡ into s (left s P₁ owed) g₁
+        counts : count g₁ ≡ into s (left s P₁ owed) g₁
         counts = (p.waits g₁ below unpeeled unready).0
 
         between : lo.between g₁ ≡ into s (left s P₁ owed') g₁
@@ -183,13 +183,13 @@ module _ {s : Survey} {low : ℕ → ℕ} {top c : ℕ} {owed : ℕ → Bool} (p
             let still = lo.less.other h d in
             (still ∙ w.0 ∙ sym (less_other h d), omega (arith, still, w.1))
 
-        go : Settled lo.between low' g₁ top r → Peels s low' r c owed'
+        go : Settled lo.between count' g₁ top r → Peels s count' r c owed'
         go (pushed z q t) =
             record {
               peeled = P₁;
               ready = joined g₁ p.ready;
               thread =
-                  subst (λ (x : ℕ). Threaded low' (joined g₁ p.ready) x) (sym t)
+                  subst (λ (x : ℕ). Threaded count' (joined g₁ p.ready) x) (sym t)
                   (thread_push g₁ (thread_moved p.thread (λ h i. lo.less.other h (members_differ p.ready i unready)) (λ h. refl)) unready q);
               inside = λ h i. ⊎_elim (λ e. subst (λ (x : ℕ). x < s.n) (sym e) below) (p.inside h) (joined_in g₁ p.ready h i);
               apart = λ h i. ⊎_elim (λ e. ap P₁ e ∙ unpeeled) (p.apart h) (joined_in g₁ p.ready h i);
@@ -213,7 +213,7 @@ module _ {s : Survey} {low : ℕ → ℕ} {top c : ℕ} {owed : ℕ → Bool} (p
               peeled = P₁;
               ready = p.ready;
               thread =
-                  subst (λ (x : ℕ). Threaded low' p.ready x) (sym t)
+                  subst (λ (x : ℕ). Threaded count' p.ready x) (sym t)
                   (thread_moved p.thread (λ h i. q.at h ∙ lo.less.other h (members_differ p.ready i unready)) (λ h. refl));
               inside = p.inside;
               apart = p.apart;
@@ -227,6 +227,6 @@ module _ {s : Survey} {low : ℕ → ℕ} {top c : ℕ} {owed : ℕ → Bool} (p
               owing = owing';
             }
           where
-            at : (h : ℕ) → h < s.n → Out P₁ h → Out p.ready h → Dec (h ≡ g₁) → (low' h ≡ into s (left s P₁ owed') h) × (0 < low' h)
+            at : (h : ℕ) → h < s.n → Out P₁ h → Out p.ready h → Dec (h ≡ g₁) → (count' h ≡ into s (left s P₁ owed') h) × (0 < count' h)
             at h m a b (yes e) = rw (q.at h, e) (between, z)
             at h m a b (no d) = rw (q.at h) (waits h m a b d)

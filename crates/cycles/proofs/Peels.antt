@@ -31,36 +31,36 @@ left_yes s P k = at (P (s.link k).from)
 
 -- ---- the beginning
 
-zeros_yes : (low : ℕ → ℕ) (n g : ℕ) → In (zeros low n) g → (g < n) × (low g ≡ 0)
-zeros_yes low n g = at (ltb g n) (eqb (low g) 0) refl refl
+zeros_yes : (count : ℕ → ℕ) (n g : ℕ) → In (zeros count n) g → (g < n) × (count g ≡ 0)
+zeros_yes count n g = at (ltb g n) (eqb (count g) 0) refl refl
   where
-    at : (t u : Bool) → ltb g n ≡ t → eqb (low g) 0 ≡ u → (t && u) ≡ true → (g < n) × (low g ≡ 0)
-    at true true a b h = (ltb-true g n a, eqb-true (low g) 0 b)
+    at : (t u : Bool) → ltb g n ≡ t → eqb (count g) 0 ≡ u → (t && u) ≡ true → (g < n) × (count g ≡ 0)
+    at true true a b h = (ltb-true g n a, eqb-true (count g) 0 b)
     at true false a b h = absurd (not_both h refl)
     at false u a b h = absurd (not_both h refl)
 
-zeros_no : (low : ℕ → ℕ) (n g : ℕ) → g < n → Out (zeros low n) g → 0 < low g
-zeros_no low n g l = at (ltb g n) (eqb (low g) 0) refl refl
+zeros_no : (count : ℕ → ℕ) (n g : ℕ) → g < n → Out (zeros count n) g → 0 < count g
+zeros_no count n g l = at (ltb g n) (eqb (count g) 0) refl refl
   where
     above : (x : ℕ) → (x ≡ 0 → ⊥) → 0 < x
     above x d = omega arith
 
-    at : (t u : Bool) → ltb g n ≡ t → eqb (low g) 0 ≡ u → (t && u) ≡ false → 0 < low g
+    at : (t u : Bool) → ltb g n ≡ t → eqb (count g) 0 ≡ u → (t && u) ≡ false → 0 < count g
     at true true a b h = absurd (not_both refl h)
-    at true false a b h = above (low g) (eqb-false (low g) 0 b)
+    at true false a b h = above (count g) (eqb-false (count g) 0 b)
     at false u a b h = absurd (omega (arith, ltb-false g n a))
 
 -- Nothing is peeled, and the groups that no link comes to are on the stack.
-pub peel_none : {s : Survey} {low low' : ℕ → ℕ} {top : ℕ} → ((g : ℕ) → low g ≡ into s (λ k. leb 0 k) g) → Stacked low low' s.n top → Peels s low' top 0 none_owed
-peel_none {s} {low} {low'} {top} count st =
+pub peel_none : {s : Survey} {count count' : ℕ → ℕ} {top : ℕ} → ((g : ℕ) → count g ≡ into s (λ k. leb 0 k) g) → Stacked count count' s.n top → Peels s count' top 0 none_owed
+peel_none {s} {count} {count'} {top} tallied st =
     record {
       peeled = no_group;
-      ready = zeros low s.n;
+      ready = zeros count s.n;
       thread = st.thread;
-      inside = λ g i. (zeros_yes low s.n g i).0;
+      inside = λ g i. (zeros_yes count s.n g i).0;
       apart = λ g i. refl;
-      waits = λ g l p r. (st.kept g r ∙ number g, rw (st.kept g r) (zeros_no low s.n g l r));
-      free = λ g i. sym (number g) ∙ (zeros_yes low s.n g i).1;
+      waits = λ g l p r. (st.kept g r ∙ number g, rw (st.kept g r) (zeros_no count s.n g l r));
+      free = λ g i. sym (number g) ∙ (zeros_yes count s.n g i).1;
       freed = λ g i. absurd (not_both i refl);
       counted = sum_zero s.n (λ g. 0) (λ g l. refl);
       rank = λ g. 0;
@@ -69,12 +69,12 @@ peel_none {s} {low} {low'} {top} count st =
       owing = λ k i. absurd (not_both i refl);
     }
   where
-    number : (g : ℕ) → low g ≡ into s (left s no_group none_owed) g
-    number g = count g ∙ into_cong s (λ k. leb 0 k) (left s no_group none_owed) (λ k l. le-leb 0 k (omega arith)) g
+    number : (g : ℕ) → count g ≡ into s (left s no_group none_owed) g
+    number g = tallied g ∙ into_cong s (λ k. leb 0 k) (left s no_group none_owed) (λ k l. le-leb 0 k (omega arith)) g
 
 -- ---- bounds
 
-module _ {s : Survey} {low : ℕ → ℕ} {top c : ℕ} {owed : ℕ → Bool} (p : Peels s low top c owed) where
+module _ {s : Survey} {count : ℕ → ℕ} {top c : ℕ} {owed : ℕ → Bool} (p : Peels s count top c owed) where
   pub top_at_most : top ≤ s.n
   top_at_most = thread_below s.n p.inside p.thread
 
@@ -90,7 +90,7 @@ module _ {s : Survey} {low : ℕ → ℕ} {top c : ℕ} {owed : ℕ → Bool} (p
       )
 
   -- Only the owed links of the survey matter.
-  pub owed_same : (owed' : ℕ → Bool) → ((k : ℕ) → k < s.e → owed k ≡ owed' k) → ((k : ℕ) → owed' k ≡ true → owed k ≡ true) → Peels s low top c owed'
+  pub owed_same : (owed' : ℕ → Bool) → ((k : ℕ) → k < s.e → owed k ≡ owed' k) → ((k : ℕ) → owed' k ≡ true → owed k ≡ true) → Peels s count top c owed'
   owed_same owed' same less =
       record {
         peeled = p.peeled;

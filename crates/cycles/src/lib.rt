@@ -2,10 +2,10 @@
 // off the counts, and so on. Where all groups can be peeled there is no cycle, and where some are left, each has a link from one of them.
 #![tactic(auto)]
 
-mod halves;
 pub mod limits;
 pub mod lists;
 mod peeling;
+mod tallies;
 
 ghost use Rattle.survey.specs.Survey.{Cycle};
 ghost use Rattle.refusals.specs.Searches.{Tells};
@@ -13,17 +13,18 @@ ghost use Rattle.cycles.specs.Lists.{LinksHold, links_in};
 
 use crate::limits::GROUPS;
 use crate::lists::LinkList;
-use crate::peeling::{peel, stack, tally};
+use crate::peeling::{Held, peel, stack, tally};
+use crate::tallies::Tally;
 
 // In time in proportion to n + e, with no recursion, and with room for one small entry a group.
-pub fn has_cycle(b: &[u8], list: LinkList) -> bool
-    requires { LinksHold b.now list }
-    ensures { Tells (Cycle (links_in b.now list)) result }
+pub fn has_cycle(list: LinkList) -> bool
+    requires { LinksHold list }
+    ensures { Tells (Cycle (links_in list.entry)) result }
 {
-    let n = list.n;
-    let mut w = [0u32; GROUPS];
-    tally(&mut w, b, list);
-    let top = stack(&mut w, n);
-    let peeled = peel(&mut w, b, list, top);
-    peeled < n
+    let links = Held { list };
+    let mut w = [Tally { count: 0, first: 0 }; GROUPS];
+    tally(&mut w, links);
+    let top = stack(&mut w, list.n);
+    let peeled = peel(&mut w, links, top);
+    peeled < list.n
 }

@@ -1,4 +1,4 @@
-// How large a survey can be (Specification 2). The cycle test's room, and the halves of its entries, go by these.
+// How large a survey can be (Specification 2). The cycle test's room, and the fields of its tallies, go by these.
 
 pub const GROUPS: usize = 128;
 

@@ -1,23 +1,26 @@
 // A list of links, lent as bytes or standing in the blocks of a file: how many it has, where they stand, and of how many groups they are.
 ghost use Rattle.std.specs.Prelude.{◌<◌};
-ghost use Rattle.entries.specs.Entries.{LinkIs};
-ghost use Rattle.cycles.specs.Lists.{LinksFit, link_in};
+ghost use Rattle.cycles.specs.Within.{EachWithin, each_within_prop};
 
-use entries::{Link, link_at};
-use survey::stands::Stand;
+use entries::{Entries, Link};
 
-// Both ends of each of the e links are to be below n.
+// Each of the e links is there; both its ends are to be below n.
 #[derive(Clone, Copy)]
-pub struct LinkList {
+pub struct LinkList<'a> {
     pub n: usize,
     pub e: usize,
-    pub stand: Stand,
+    pub entries: Entries<'a>,
+    pub ghost fit: { EachWithin e entries.bytes.now entries.stand } by { each_within_prop e entries.bytes.now entries.stand },
 }
 
-pub fn link_of(b: &[u8], list: LinkList, k: usize) -> Link
-    requires { LinksFit b.now list × (k < list.e) }
-    ensures { LinkIs result (link_in b.now list k) }
-{
-    let stand = list.stand;
-    link_at(b, stand, k)
+impl<'a> LinkList<'a> {
+    ghost use Rattle.entries.specs.Entries.{LinkIs};
+    ghost use Rattle.cycles.specs.Lists.{link_in};
+
+    pub fn link(self, k: usize) -> Link
+        requires { k < self.e }
+        ensures { LinkIs result (link_in self.entry k) }
+    {
+        self.entries.link(k)
+    }
 }

@@ -1,43 +1,33 @@
 // The cases of Specification 15.3, which are run and not proved: one printed line for each. Some are files of data/, some lists.
 #![tactic(auto)]
 
-ghost use Rattle.std.specs.Prelude.{◌≤◌, length};
-
 use chooser::choose;
+use entries::Lists;
 use input::read_full;
-use printing::print_pick;
+use printing::{FILE_ROOM, TEXT_ROOM, print_pick};
 use refusals::place_number;
 use std::rt::Files;
 use std::{fs, io};
-use survey::answers::{Choice, Refusal};
 use views::sums::check_agrees;
 use views::view::block_check;
-use words::put_word;
 
 // ---- cases that are files, opened by name and read as the pick program reads its input
 
-// one byte more than the largest file
-const FILE: usize = 10_753;
-
-// room for whatever is printed
-const TEXT: usize = 1_024;
-
-// A file that is not there has no bytes.
-fn load(rt: &HostRuntime, path: &str, file: &mut [u8]) -> usize
-    ensures { result ≤ length file.new }
-{
-    match fs::open(rt, path) {
-        Ok(mut opened) => read_full(&mut opened, file),
+// The bytes of a file, as many as there is room for. A file that is not there has none.
+fn load<'a>(rt: &HostRuntime, path: &str, room: &'a mut [u8]) -> &'a [u8] {
+    let n = match fs::open(rt, path) {
+        Ok(mut opened) => read_full(&mut opened, room),
         Err(_) => 0,
-    }
+    };
+    &room[..n]
 }
 
 // The name of the case, and what the program prints of its file.
 fn file_case(rt: &HostRuntime, name: &str, path: &str) -> io::Result<()> {
-    let mut file = [0u8; FILE];
-    let n = load(rt, path, &mut file);
-    let mut text = [0u8; TEXT];
-    let k = print_pick(&file[..n], &mut text);
+    let mut room = [0u8; FILE_ROOM];
+    let file = load(rt, path, &mut room);
+    let mut text = [0u8; TEXT_ROOM];
+    let k = print_pick(file, &mut text);
     print!(rt; "{name}")?;
     rt.write_all(&text[..k])
 }
@@ -57,93 +47,39 @@ fn header_words(rt: &HostRuntime, file: &[u8]) -> io::Result<()> {
 }
 
 fn check_words(rt: &HostRuntime, name: &str, path: &str) -> io::Result<()> {
-    let mut file = [0u8; FILE];
-    let n = load(rt, path, &mut file);
+    let mut room = [0u8; FILE_ROOM];
+    let file = load(rt, path, &mut room);
     print!(rt; "{name}")?;
-    header_words(rt, &file[..n])?;
+    header_words(rt, file)?;
     println!(rt; "")
 }
 
 // ---- cases that are lists, made here and given to the chooser
 
-// The groups of F2. Each count is below 256, so its low byte says it.
-fn f2_groups() -> [u8; 1_024] {
-    let mut groups = [0u8; 1_024];
-    groups[0] = 2;
-    groups[4] = 2;
-    groups[8] = 4;
-    groups[12] = 3;
-    groups[16] = 1;
-    groups[20] = 12;
-    groups[24] = 6;
-    groups[28] = 3;
-    groups[32] = 10;
-    groups[36] = 3;
-    groups
-}
-
-// The links (p, q) and (r, s), low bytes as above.
-fn links_of(p: u8, q: u8, r: u8, s: u8) -> [u8; 8_192] {
-    let mut links = [0u8; 8_192];
-    links[0] = p;
-    links[4] = q;
-    links[8] = r;
-    links[12] = s;
-    links
-}
-
-// Every count of the list is 1,000,000.
-fn millions(groups: &mut [u8]) {
-    let mut left = groups.len() / 4;
-    while 0 < left {
-        left -= 1;
-        put_word(groups, 4 * left, 1_000_000);
+// A list that begins with these numbers, as words with their low bytes first. The rest of it is zeros.
+fn list_of<const N: usize>(numbers: &[u32]) -> [u8; N] {
+    let mut list = [0u8; N];
+    for (word, x) in list.chunks_exact_mut(4).zip(numbers) {
+        word.copy_from_slice(&x.to_le_bytes());
     }
-}
-
-fn count_marked(marks: &[u8]) -> u64 {
-    let mut k = 0;
-    let mut g = 0;
-    while g < marks.len() {
-        if marks[g] == 1 {
-            k += 1;
-        }
-        g += 1;
-    }
-    k
-}
-
-fn print_named(rt: &HostRuntime, word: &str, x: u64) -> io::Result<()> {
-    print!(rt; "{word}{x}")
-}
-
-fn print_refused(rt: &HostRuntime, r: Refusal) -> io::Result<()> {
-    print_named(rt, "refused ", r.number)?;
-    let place = r.place;
-    print_named(rt, " ", place_number(place) as u64)
+    list
 }
 
 // The name of the case, and the chooser's answer.
-fn list_case(
-    rt: &HostRuntime,
-    name: &str,
-    n: usize,
-    e: usize,
-    groups: &[u8],
-    links: &[u8],
-) -> io::Result<()> {
+fn list_case(rt: &HostRuntime, name: &str, lists: Lists) -> io::Result<()> {
     let mut marks = [0u8; 128];
     let mut amounts = [0u8; 8_192];
-    print!(rt; "{name}")?;
-    let choice = choose(n, e, groups, links, &mut marks, &mut amounts);
-    match choice {
-        Choice::Refused(r) => print_refused(rt, r)?,
-        Choice::Chosen { rounds } => {
-            print_named(rt, "chosen ", count_marked(&marks))?;
-            print_named(rt, " rounds ", rounds)?;
+    match choose(lists, &mut marks, &mut amounts) {
+        Ok(rounds) => {
+            let picked = marks.iter().filter(|mark| **mark == 1).count();
+            println!(rt; "{name}chosen {picked} rounds {rounds}")
+        }
+        Err(r) => {
+            let number = r.number;
+            let place = place_number(r.place);
+            println!(rt; "{name}refused {number} {place}")
         }
     }
-    println!(rt; "")
 }
 
 // ---- the cases
@@ -157,37 +93,46 @@ fn from_files(rt: &HostRuntime) -> io::Result<()> {
     file_case(rt, "one group 0:5: ", "one_group_0_5.dat")
 }
 
-// A link of which both ends are one group, one to a group that is not there, and one that stands twice.
+// A survey of 5 with these links, as many as e.
+fn of_five<'a>(groups: &'a [u8], e: usize, links: &'a [u8]) -> Lists<'a> {
+    Lists {
+        n: 5,
+        e,
+        groups,
+        links,
+    }
+}
+
+// The groups of F2, with a link of which both ends are one group, one to a group that is not there, and one that stands twice.
 fn from_lists(rt: &HostRuntime) -> io::Result<()> {
-    let groups = f2_groups();
-    let to_itself = links_of(3, 3, 0, 0);
+    let groups = list_of::<1_024>(&[2, 2, 4, 3, 1, 12, 6, 3, 10, 3]);
+    let to_itself = list_of::<8_192>(&[3, 3]);
     list_case(
         rt,
         "link (3,3) in a survey of 5: ",
-        5,
-        1,
-        &groups,
-        &to_itself,
+        of_five(&groups, 1, &to_itself),
     )?;
-    let outside = links_of(4, 5, 0, 0);
-    list_case(rt, "link (4,5) in a survey of 5: ", 5, 1, &groups, &outside)?;
-    let twice = links_of(1, 2, 1, 2);
-    list_case(rt, "link (1,2) twice: ", 5, 2, &groups, &twice)
+    let outside = list_of::<8_192>(&[4, 5]);
+    list_case(
+        rt,
+        "link (4,5) in a survey of 5: ",
+        of_five(&groups, 1, &outside),
+    )?;
+    let twice = list_of::<8_192>(&[1, 2, 1, 2]);
+    list_case(rt, "link (1,2) twice: ", of_five(&groups, 2, &twice))
 }
 
 // The largest survey without links, all counts at their limit.
 fn largest_counts(rt: &HostRuntime) -> io::Result<()> {
-    let mut groups = [0u8; 1_024];
-    millions(&mut groups);
+    let groups = list_of::<1_024>(&[1_000_000; 256]);
     let links = [0u8; 8_192];
-    list_case(
-        rt,
-        "128 groups of 1000000:1000000: ",
-        128,
-        0,
-        &groups,
-        &links,
-    )
+    let lists = Lists {
+        n: 128,
+        e: 0,
+        groups: &groups,
+        links: &links,
+    };
+    list_case(rt, "128 groups of 1000000:1000000: ", lists)
 }
 
 fn main(rt: HostRuntime) -> io::Result<()> {

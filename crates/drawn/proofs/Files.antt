@@ -11,12 +11,12 @@ use Rattle.survey.specs.declared.stands.Stand.{Stand}
 use Rattle.survey.specs.Words.{group_at, link_at, survey_at}
 use Rattle.survey.specs.SurveyFile.{CheckAgrees, sums, block_word, block_count, number_in, kind_in, kind_of, n_in, e_in, blocks_needed, file_limit, used_words, UnusedAreZero}
 use Rattle.survey.specs.SurveyFile.{in_blocks, first_group_block, first_link_block, survey_in}
-use Rattle.survey.specs.Refusals.{fine, Fault, AllClear}
+use Rattle.survey.specs.Refusals.{fine, AllClear}
 use Rattle.survey.specs.Faults.{survey_faults, Admitted, AdmittedFile}
 use Rattle.survey.specs.Drawings.{counts, link, drawn, f2, f7}
 use Rattle.blocks.specs.FileFaults.{block_faults}
 use Rattle.survey.proofs.Deciding.{Decides, told_iff, both, either, denied, implied, less, at_most, equal, all_below, all_below_lem}
-use Rattle.survey.proofs.Verdicts.{fine_clear}
+use Rattle.survey.proofs.Verdicts.{fine_clear, clear_both}
 use Rattle.survey.proofs.ComputedVerdicts.{lowest_below, verdict_of, verdict_test, RowsTold, no_row, row, answers_told}
 use Rattle.drawn.proofs.Calls.{pair, group_bytes, link_bytes, zeros, cut_off}
 use Rattle.drawn.proofs.Benched.{f2_groups, f2_links, f7_groups, f7_links, f2_admitted, f7_admitted}
@@ -69,12 +69,6 @@ blocks_test f = verdict_test (verdict_of (block_faults f) (block_tests f)) fine
 blocks_clear : (f : List ℕ) → blocks_test f ≡ true → AllClear (block_faults f)
 unfolding blocks_test
 blocks_clear f h = fine_clear (block_faults f) ((answers_told (blocks_told f) fine).so h)
-
--- faults of two parts, none of which is there
-clear_both : (fs gs : List Fault) → AllClear fs → AllClear gs → AllClear (fs ++ gs)
-unfolding AllClear
-clear_both [] gs c d = d
-clear_both (f ∷ fs) gs c d = (c.0, clear_both fs gs c.1 d)
 
 -- ---- the survey of a file, by its entries
 

@@ -25,42 +25,85 @@ pub struct Link {
     pub to: usize,
 }
 
-// Entry k, wherever it stands: in a lent list by its bytes, and in a file, 62 to a block, through the view of its block.
-pub fn pair_at(b: &[u8], stand: Stand, k: usize) -> Pair
-    requires { EntryWithin b.now stand k }
-    ensures { PairIs result b.now stand k }
-{
-    match stand {
-        Stand::Lent => Pair {
-            first: word_at(b, 8 * k),
-            second: word_at(b, 8 * k + 4),
-        },
-        Stand::Blocks(start) => Pair {
-            first: block_word(b, start + k / 62, 2 + 2 * (k % 62)),
-            second: block_word(b, start + k / 62, 2 + 2 * (k % 62) + 1),
-        },
+// A list of entries, wherever they stand.
+#[derive(Clone, Copy)]
+pub struct Entries<'a> {
+    pub bytes: &'a [u8],
+    pub stand: Stand,
+}
+
+impl<'a> Entries<'a> {
+    // Entry k: in a lent list by its bytes, and in a file, 62 to a block, through the view of its block.
+    pub fn pair(self, k: usize) -> Pair
+        requires { EntryWithin self.bytes.now self.stand k }
+        ensures { PairIs result self.entry.bytes.now self.entry.stand k }
+    {
+        match self.stand {
+            Stand::Lent => Pair {
+                first: word_at(self.bytes, 8 * k),
+                second: word_at(self.bytes, 8 * k + 4),
+            },
+            Stand::Blocks(start) => Pair {
+                first: block_word(self.bytes, start + k / 62, 2 + 2 * (k % 62)),
+                second: block_word(self.bytes, start + k / 62, 2 + 2 * (k % 62) + 1),
+            },
+        }
+    }
+
+    pub fn group(self, k: usize) -> Group
+        requires { EntryWithin self.bytes.now self.stand k }
+        ensures { GroupIs result (group_at self.entry.bytes.now self.entry.stand k) }
+    {
+        let pair = self.pair(k);
+        Group {
+            dead: Dead(pair.first as u64),
+            live: Live(pair.second as u64),
+        }
+    }
+
+    pub fn link(self, k: usize) -> Link
+        requires { EntryWithin self.bytes.now self.stand k }
+        ensures { LinkIs result (link_at self.entry.bytes.now self.entry.stand k) }
+    {
+        let pair = self.pair(k);
+        Link {
+            from: pair.first as usize,
+            to: pair.second as usize,
+        }
     }
 }
 
-pub fn group_at(b: &[u8], stand: Stand, k: usize) -> Group
-    requires { EntryWithin b.now stand k }
-    ensures { GroupIs result (group_at b.now stand k) }
-{
-    let pair = pair_at(b, stand, k);
-    Group {
-        dead: Dead(pair.first as u64),
-        live: Live(pair.second as u64),
-    }
+// A survey given as lists: n groups and e links, one after the other in two lists that are lent.
+#[derive(Clone, Copy)]
+pub struct Lists<'a> {
+    pub n: usize,
+    pub e: usize,
+    pub groups: &'a [u8],
+    pub links: &'a [u8],
 }
 
-pub fn link_at(b: &[u8], stand: Stand, k: usize) -> Link
-    requires { EntryWithin b.now stand k }
-    ensures { LinkIs result (link_at b.now stand k) }
-{
-    let pair = pair_at(b, stand, k);
-    Link {
-        from: pair.first as usize,
-        to: pair.second as usize,
+// Kept: a method for each of the two lists, and the fact that an entry is there in each clause: it is of k, and no fact about the lists.
+impl<'a> Lists<'a> {
+    pub fn group(self, g: usize) -> Group
+        requires { EntryWithin self.groups.now lent g }
+        ensures { GroupIs result (group_at self.entry.groups.now lent g) }
+    {
+        Entries {
+            bytes: self.groups,
+            stand: Stand::Lent,
+        }
+        .group(g)
+    }
+
+    pub fn link(self, k: usize) -> Link
+        requires { EntryWithin self.links.now lent k }
+        ensures { LinkIs result (link_at self.entry.links.now lent k) }
+    {
+        Entries {
+            bytes: self.links,
+            stand: Stand::Lent,
+        }
+        .link(k)
     }
 }
 

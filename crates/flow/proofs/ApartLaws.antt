@@ -1,43 +1,12 @@
 -- Laws of the groups that began a wave, which are marked 3: one after the other, and what that makes of the marks.
-use Prim.Native.Nat.{ℕ, ◌+◌, ◌≤◌, ◌<◌}
+use Prim.Native.Nat.{ℕ, ◌≤◌, ◌<◌}
 use native.Mathlib.Omega.{arith}
-use mathlib.Core.Path.{◌≡◌, refl, ◌∙◌}
+use mathlib.Core.Path.{◌≡◌, ◌∙◌}
 use mathlib.Core.Logic.{◌⊎◌, inl, inr}
-use mathlib.Core.Bool.{Bool, true, false}
 use mathlib.Core.List.{List}
-use lib.ListN.{length, get_or, set, length-set}
-use lib.Seq.{get_or-set_same}
-use lib.Dec.{eqb}
-use borrow.Author.Tests.{eqb-true, eqb-false}
+use lib.ListN.{get_or}
 use Rattle.flow.specs.Drains.{Placed}
 use Rattle.flow.specs.Waves.{unmarked, Remarked, Coming, Ahead, SetApart}
-use Rattle.flow.proofs.JoinLaws.{set_by}
-
-pub apart_none : (t order : List ℕ) → SetApart t order 0 t
-apart_none t order = record { three = λ i h. absurd (omega arith); each = λ h. inl refl; long = refl }
-
-pub apart_more : {c : ℕ} {t₀ t order : List ℕ} → get_or order c 0 < length t₀ → SetApart t₀ order c t → SetApart t₀ order (c + 1) (set t (get_or order c 0) 3)
-apart_more {c} {t₀} {t} {order} room a =
-    record {
-      three = λ i h. there i h (eqb i c) refl;
-      each = set_by t (get_or order c 0) 3 (λ h v. (v ≡ get_or t₀ h 0) ⊎ ((i : ℕ) × (i < c + 1) × (get_or order i 0 ≡ h))) here (inr (c, omega arith, refl))
-          (λ h d. more (a.each h));
-      long = simp length-set a.long;
-    }
-  where
-    here : get_or order c 0 < length t
-    here = omega (arith, a.long)
-
-    there : (i : ℕ) → i < c + 1 → (b : Bool) → eqb i c ≡ b → get_or (set t (get_or order c 0) 3) (get_or order i 0) 0 ≡ 3
-    there i h true q = rw (eqb-true i c q) (get_or-set_same t (get_or order c 0) 3 0 here)
-    there i h false q =
-        let other : i ≡ c → ⊥ = eqb-false i c q in
-        set_by t (get_or order c 0) 3 (λ j v. j ≡ get_or order i 0 → v ≡ 3) here (λ z. refl) (λ j d z. rw z (a.three i (omega arith))) (get_or order i 0) refl
-
-    more : {h : ℕ} → (get_or t h 0 ≡ get_or t₀ h 0) ⊎ ((i : ℕ) × (i < c) × (get_or order i 0 ≡ h)) → (get_or t h 0 ≡ get_or t₀ h 0) ⊎
-        ((i : ℕ) × (i < c + 1) × (get_or order i 0 ≡ h))
-    more (inl z) = inl z
-    more (inr f) = inr (f.0, omega (arith, f.1), f.2)
 
 -- c' groups have joined, of which c began
 module _ {n c c' : ℕ} {t order t' : List ℕ} (p : Placed n t order c') (w : c ≤ c') (a : SetApart t order c t') where

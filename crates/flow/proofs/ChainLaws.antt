@@ -1,6 +1,7 @@
 -- Laws of chains: how they grow from the last link down, and that those of one end leave those of the other alone.
 use Prim.Native.Nat.{ℕ, ◌+◌, ◌-◌, ◌<◌, ◌≤◌}
 use mathlib.Core.Path.{◌≡◌, refl, sym, ◌∙◌}
+use mathlib.Core.Logic.{◌⊎◌, inl, inr}
 use mathlib.Core.List.{List}
 use mathlib.Core.Bool.{Bool, true, false}
 use native.Mathlib.Omega.{arith}
@@ -20,28 +21,7 @@ pub record Chaining (n e end : ℕ) (ends : ℕ → ℕ) (chains₀ : List ℕ) 
   pub else : (i : ℕ) → Aside end i → get_or chains i 0 ≡ get_or chains₀ i 0
   pub long : length chains ≡ length chains₀
 
--- no link yet: each chain is empty
-pub chain_begins : {n e end : ℕ} {ends : ℕ → ℕ} {chains : List ℕ} → ((g : ℕ) → g < n → get_or chains (head_at end g) 0 ≡ e) → Chaining n e end ends chains e chains
-chain_begins empty =
-    record {
-      within = omega arith;
-      heads = λ g h. rw (empty g h) (record { from = omega arith; within = omega arith; hit = λ b. absurd (omega arith); first = λ i a b. absurd (omega arith) });
-      nexts = λ j a b. absurd (omega arith);
-      else = λ i a. refl;
-      long = refl;
-    }
-
 module _ {ends : List ℕ} {n e end : ℕ} {chains₀ : List ℕ} (p : Chainable ends n e end chains₀) where
-  -- all links
-  pub chain_done : {k : ℕ} {chains : List ℕ} → k ≤ 0 → Chaining n e end (end_in ends end) chains₀ k chains → Chained ends n e end chains₀ chains
-  chain_done {k} z c =
-      let at : k ≡ 0 = omega arith in
-      record {
-        index = record { heads = rw at at c.heads; nexts = λ j b. c.nexts j (omega arith) b; long = omega (arith, c.long, p.long) };
-        else = c.else;
-        long = c.long;
-      }
-
   -- link j goes in front of the chain of its end
   pub chain_more :
       {k j : ℕ} {chains : List ℕ} → j ≡ k - 1 → 0 < k → Chaining n e end (end_in ends end) chains₀ k chains
@@ -108,10 +88,6 @@ module _ {ends : List ℕ} {n e end : ℕ} {chains₀ : List ℕ} (p : Chainable
           )
           (c.nexts i (omega arith) b)
 
-  -- the end that was read is a group
-  pub chain_here : {k g : ℕ} {chains : List ℕ} → Chaining n e end (end_in ends end) chains₀ k chains → 0 < k → g ≡ end_in ends end (k - 1) → g < group_limit
-  chain_here {k} c h z = omega (arith, p.below (k - 1) (omega (arith, c.within)), p.few_groups)
-
 -- ---- those of the other end
 
 pub other_head : {g : ℕ} → g < group_limit → Aside 0 (head_at 1 g)
@@ -126,3 +102,11 @@ index_stays few many x c =
       nexts = λ k l. rw (c.else (next_at 0 k) (record { no_head = λ h m z. omega arith; no_next = λ h m z. omega arith })) (x.nexts k l);
       long = omega (arith, x.long, c.long);
     }
+
+-- ---- the chains of an end, by its number
+
+pub index_of :
+    {n e end : ℕ} {chains : List ℕ} (ends : List ℕ) → (end ≡ 0) ⊎ (end ≡ 1) → Index n e 0 (end_in ends 0) chains → Index n e 1 (end_in ends 1) chains
+    → Index n e end (end_in ends end) chains
+index_of ends (inl z) forth back = rw z forth
+index_of ends (inr z) forth back = rw z back

@@ -22,7 +22,7 @@ use Rattle.words.proofs.WordLaws.{length_with_long_word, with_long_word_outside}
 use Rattle.entries.specs.Entries.{with_amount}
 use Rattle.entries.proofs.EntryLaws.{amount_with, amount_with_other}
 use Rattle.flow.specs.Links.{end_of, Given}
-use Rattle.flow.specs.Copies.{end_in, copied, Copyable, Copy, Copied, Taken, Put}
+use Rattle.flow.specs.Copies.{end_in, copied, Copyable, Copy, Copied, Put}
 use Rattle.flow.specs.Drains.{Net, Least}
 use Rattle.flow.specs.Sends.{Balanced}
 use Rattle.flow.proofs.LinkLaws.{given_from, given_to, given_below}
@@ -137,9 +137,6 @@ end_below net (inr z) = rw z net.to
 
 -- ---- link after link
 
-pub copied_none : (links ends : List ℕ) → Copied 0 links ends ends
-copied_none links ends = record { from = λ k h. absurd (omega arith); to = λ k h. absurd (omega arith); rest = λ i h. refl; long = refl }
-
 -- the ends of link k go to their two places
 pub copied_more :
     {k p q : ℕ} {links ends₀ ends : List ℕ} → 2 * k + 2 ≤ length ends₀ → p ≡ end_of links 0 k → q ≡ end_of links 4 k → Copied k links ends₀ ends
@@ -173,24 +170,6 @@ copied_more {k} {p} {q} {links} {ends₀} {ends} room zp zq o =
         let other : i ≡ k → ⊥ = eqb-false i k r in
         get_or-set_other (set ends (2 * k) p) (2 * k + 1) (2 * i + 1) q 0 (λ z. omega arith) ∙ get_or-set_other ends (2 * k) (2 * i + 1) p 0 (λ z. omega arith) ∙ o.to i
         (omega arith)
-
-pub taken_none : (amounts x : List ℕ) → Taken 0 amounts x x
-taken_none amounts x = record { at = λ k h. absurd (omega arith); rest = λ i h. refl; long = refl }
-
-pub taken_more : {k a : ℕ} {amounts x₀ x : List ℕ} → k < length x₀ → a ≡ amounts_of amounts k → Taken k amounts x₀ x → Taken (k + 1) amounts x₀ (set x k a)
-taken_more {k} {a} {amounts} {x₀} {x} room z y =
-    record {
-      at = λ i h. go i h (eqb i k) refl;
-      rest = λ i h. get_or-set_other x k i a 0 (λ q. omega arith) ∙ y.rest i (omega arith);
-      long = simp length-set y.long;
-    }
-  where
-    go : (i : ℕ) → i < k + 1 → (t : Bool) → eqb i k ≡ t → get_or (set x k a) i 0 ≡ amounts_of amounts i
-    go i h true r = rw (eqb-true i k r) (get_or-set_same x k a 0 (omega (arith, y.long)) ∙ z)
-    go i h false r = let other : i ≡ k → ⊥ = eqb-false i k r in get_or-set_other x k i a 0 other ∙ y.at i (omega arith)
-
-pub put_none : (x amounts : List ℕ) → Put 0 x amounts amounts
-put_none x amounts = record { at = λ k h. absurd (omega arith); rest = λ i h. refl; long = refl }
 
 pub put_more :
     {k : ℕ} {x a₀ a a' : List ℕ} → entry_bytes * k + 8 ≤ length a₀ → get_or x k 0 < 2 ^ 64 → a' ≡ with_amount a k (get_or x k 0) → Put k x a₀ a → Put (k + 1) x a₀ a'

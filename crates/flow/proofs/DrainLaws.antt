@@ -1,6 +1,6 @@
 -- Laws of the set that drains: once the row of each group in it is seen to, it is the least one, and there is one least set.
 use Prim.Native.Nat.{ℕ, zero, suc, ◌+◌, ◌-◌, ◌*◌, ◌<◌, ◌≤◌}
-use mathlib.Core.Path.{◌≡◌, refl, sym, ap, ◌∙◌}
+use mathlib.Core.Path.{◌≡◌, refl, sym, ◌∙◌, ap}
 use mathlib.Core.List.{List}
 use mathlib.Core.Bool.{Bool, true, false}
 use native.Mathlib.Omega.{arith}
@@ -20,11 +20,11 @@ use Rattle.bits.specs.Bits.{bit}
 use Rattle.flow.specs.Links.{bare}
 use Rattle.flow.specs.Copies.{copied, Copy, Copied, Taken}
 use Rattle.flow.specs.Ways.{Way, pays, gives_back, Ways, WaysFound}
-use Rattle.flow.specs.Drains.{Placed, Hop, Begun, Others, Grew, Growable, Growing, Seeable, SawHalf, Grown, Least, Drained}
+use Rattle.flow.specs.Drains.{Hop, Begun, Others, Grew, Growing, SawHalf, Grown, Least, Drained, Placed, Growable, Seeable}
 use Rattle.flow.proofs.LinkLaws.{bare_given}
 use Rattle.flow.proofs.CopyLaws.{given_alike, alike_least}
+use Rattle.flow.proofs.GrowLaws.{grew_on, grew_none, grew_growable}
 use Rattle.flow.proofs.WayLaws.{ways_inside}
-use Rattle.flow.proofs.GrowLaws.{grew_none, grew_on, grew_growable}
 
 -- where the growing stands: the rows of the groups before place i of the order are seen to
 pub record Growth (n : ℕ) (ways others t order : List ℕ) (c : ℕ) (others' t' order' : List ℕ) (c' i : ℕ) : Type 0 where
@@ -117,20 +117,6 @@ growth_done {ways = ways} d w =
     }
 
 -- ---- the rows have who can pay
-
--- what growing along the rows asks
-pub ways_growable :
-    {n e c : ℕ} {ends ways t order : List ℕ} {x : Amounts} → Copy n e ends → Ways (copied n e ends) x e ways → 2 * n ≤ length ways → Placed n t order c
-    → n ≤ length t → n ≤ length order → Growable n ways t order c
-ways_growable net v long placed t_long order_long =
-    record {
-      few = net.few_groups;
-      ways_long = long;
-      inside = ways_inside net v;
-      placed = placed;
-      t_long = t_long;
-      order_long = order_long;
-    }
 
 -- each that joined can pay into one that joined before
 pub grown_hops :
@@ -241,3 +227,24 @@ drained_one {n} {e} {links} {amounts} {la} {t} {a} {b} p q =
         bits_one (p.bits i l) (q.bits i l)
         (together (marked_set a i) (marked_set b i) (λ m. (x.least (marked_set b) y.obeys y.holds).has i l m) (λ m. (y.least (marked_set a) x.obeys x.holds).has i l m))
     go i false r = let l = ltb-false i n r in p.rest i l ∙ sym (q.rest i l)
+
+-- what growing along the rows asks
+pub ways_growable :
+    {n e c : ℕ} {ends ways t order : List ℕ} {x : Amounts} → Copy n e ends → Ways (copied n e ends) x e ways → 2 * n ≤ length ways → Placed n t order c
+    → n ≤ length t → n ≤ length order → Growable n ways t order c
+ways_growable net v long placed t_long order_long =
+    record {
+      few = net.few_groups;
+      ways_long = long;
+      inside = ways_inside net v;
+      placed = placed;
+      t_long = t_long;
+      order_long = order_long;
+    }
+
+-- ---- what a queue leaves, of as many groups and in the lists that it gives back
+
+pub grown_as :
+    {n n' c c' : ℕ} {ways t order t' order' t'' order'' : List ℕ} → n' ≡ n → t'' ≡ t' → order'' ≡ order' → Grown n' ways t order c t' order' c'
+    → Grown n ways t order c t'' order'' c'
+grown_as x y z w = rw (← x, y, z) w

@@ -10,11 +10,12 @@ use lib.Dec.{eqb, ltb}
 use borrow.Author.Tests.{eqb-true, eqb-false, ltb-true, ltb-false}
 use Rattle.survey.proofs.SumOrder.{sum_le}
 use Rattle.flow.specs.Copies.{end_in, copied, flowing}
-use Rattle.flow.specs.Chains.{IsNext, head_at, next_at}
+use Rattle.flow.specs.Chains.{IsNext, head_at, next_at, Index}
 use Rattle.flow.specs.Ways.{Way, pays, gives_back, Noted}
-use Rattle.flow.specs.Sends.{Course}
-use Rattle.flow.specs.Waves.{Flowed, Rows, Ran, lacks, Coming, Rises, Passed, fallen, full, onward, Offerable, Offered, kept, took, least_for, Spillable, Passage, Spilled, none, some, Turnable, Turned, rests, sent}
-use Rattle.flow.proofs.CopyLaws.{end_small, other_end, end_below}
+use Rattle.flow.specs.Sends.{Chart, Afloat, Course}
+use Rattle.flow.specs.Waves.{Flowed, Rows, Ran, lacks, Coming, Rises, Passed, fallen, full, onward, Offerable, Offered, kept, took, least_for}
+use Rattle.flow.specs.Waves.{Spillable, Passage, Spilled, none, some, Turnable, Turned, rests, sent}
+use Rattle.flow.proofs.CopyLaws.{other_end, end_below}
 use Rattle.flow.proofs.WayLaws.{noted_ways, noted_length}
 use Rattle.flow.proofs.SafeLaws.{Sent, sendable, sends_sent}
 
@@ -46,13 +47,10 @@ flow_on a b =
       la_rest = λ g h. b.la_rest g h ∙ a.la_rest g h;
     }
 
-pub course_after :
-    {n e : ℕ} {ends amounts ex la amounts' ex' la' : List ℕ} → Course n e ends amounts ex la → Flowed n e ends amounts ex la amounts' ex' la' → Course n e ends amounts' ex' la'
-course_after c f =
+pub afloat_after :
+    {n e : ℕ} {ends amounts ex la amounts' ex' la' : List ℕ} → Afloat n e ends amounts ex la → Flowed n e ends amounts ex la amounts' ex' la' → Afloat n e ends amounts' ex' la'
+afloat_after c f =
     record {
-      net = c.net;
-      no_cycle = c.no_cycle;
-      once = c.once;
       amounts_long = omega (arith, c.amounts_long, f.amounts_long);
       ex_long = omega (arith, c.ex_long, f.ex_long);
       la_long = omega (arith, c.la_long, f.la_long);
@@ -64,6 +62,10 @@ course_after c f =
             small = c.safe.small;
           };
     }
+
+pub course_after :
+    {n e : ℕ} {ends amounts ex la amounts' ex' la' : List ℕ} → Course n e ends amounts ex la → Flowed n e ends amounts ex la amounts' ex' la' → Course n e ends amounts' ex' la'
+course_after c f = record { chart = c.chart; afloat = afloat_after c.afloat f }
 
 pub ran_none : {n e : ℕ} {ends amounts ex la ways : List ℕ} → Ran n e ends amounts ex la ways amounts ex la ways
 ran_none = record { flowed = flow_none; rows = λ r. r; long = refl }
@@ -78,7 +80,7 @@ pub lacks_fall : {n e : ℕ} {ends amounts ex la amounts' ex' la' : List ℕ} �
 lacks_fall {n} {la = la} {la' = la'} f = sum_le n (λ g. get_or la' g 0) (λ g. get_or la g 0) (λ g l. f.falls g)
 
 -- a group with a lack has no excess
-pub lack_no_excess : {n e : ℕ} {ends amounts ex la : List ℕ} → Course n e ends amounts ex la → (g : ℕ) → g < n → 0 < get_or la g 0 → get_or ex g 0 ≡ 0
+pub lack_no_excess : {n e : ℕ} {ends amounts ex la : List ℕ} → Afloat n e ends amounts ex la → (g : ℕ) → g < n → 0 < get_or la g 0 → get_or ex g 0 ≡ 0
 lack_no_excess c g l p = omega (arith, c.safe.balanced.above g l, c.safe.balanced.below g l)
 
 -- ---- what group g has sent, to groups that are still to come
@@ -114,24 +116,22 @@ pub record Spilling (n e end g : ℕ) (ends amounts₀ ex₀ la₀ ways₀ t amo
   pub within : k ≤ e
   pub hit : k < e → end_in ends end k ≡ g
 
-module _ {n e end g : ℕ} {ends chains amounts₀ ex₀ la₀ ways₀ t : List ℕ} (p : Spillable n e end g ends chains amounts₀ ex₀ la₀ ways₀ t) where
-  pub spill_small : end ≤ 1
-  spill_small = end_small p.which
-
-  pub spill_begins : Spilling n e end g ends amounts₀ ex₀ la₀ ways₀ t amounts₀ ex₀ la₀ ways₀ (get_or chains (head_at end g) 0)
-  spill_begins =
-      let h = p.index.heads g p.below in
+module _ {n e end g : ℕ} {ends amounts₀ ex₀ la₀ ways₀ t : List ℕ} (chart : Chart n e ends) (p : Spillable n e end g ends amounts₀ ex₀ la₀ ways₀ t) where
+  pub spill_begins : {chains : List ℕ} → Index n e end (end_in ends end) chains
+      → Spilling n e end g ends amounts₀ ex₀ la₀ ways₀ t amounts₀ ex₀ la₀ ways₀ (get_or chains (head_at end g) 0)
+  spill_begins x =
+      let h = x.heads g p.below in
       record { spilled = none (λ pos j l x. h.first j (omega arith) l x.hit); within = h.within; hit = h.hit }
 
   module _ {amounts ex la ways : List ℕ} {k q : ℕ} (w : Spilling n e end g ends amounts₀ ex₀ la₀ ways₀ t amounts ex la ways k) (l : k < e) (z : q ≡ end_in ends (1 - end) k) where
     course : Course n e ends amounts ex la
-    course = course_after p.course (spilled_ran w.spilled).flowed
+    course = record { chart = chart; afloat = afloat_after p.afloat (spilled_ran w.spilled).flowed }
 
     rows : Rows n e ends amounts ways
     rows = (spilled_ran w.spilled).rows p.rows
 
     q_below : q < n
-    q_below = rw z (end_below p.course.net (other_end p.which) k l)
+    q_below = rw z (end_below chart.net (other_end p.which) k l)
 
     -- the link takes something
     way : least_for end ≤ flowing amounts k → Way (copied n e ends) (flowing amounts) k g q
@@ -145,13 +145,13 @@ module _ {n e end g : ℕ} {ends chains amounts₀ ex₀ la₀ ways₀ t : List 
     spill_offerable =
         record {
           q_within = omega (arith, q_below, p.t_long);
-          amount_within = omega (arith, course.amounts_long);
-          link_within = omega (arith, p.course.net.ends_long);
+          amount_within = omega (arith, course.afloat.amounts_long);
+          link_within = omega (arith, chart.net.ends_long);
           sendable = λ m least. sendable course l p.t_long (way least);
           notable =
               record {
-                few = omega (arith, p.course.net.from k l, p.course.net.few_groups);
-                room = omega (arith, p.course.net.to k l, rows.long);
+                few = omega (arith, chart.net.from k l, chart.net.few_groups);
+                room = omega (arith, chart.net.to k l, rows.long);
               };
         }
 
@@ -162,19 +162,20 @@ module _ {n e end g : ℕ} {ends chains amounts₀ ex₀ la₀ ways₀ t : List 
     took_ran x d =
         record {
           flowed = x.flowed;
-          rows = λ r. record { right = noted_ways course.net course.no_cycle course.once l r.long x.same r.right d; long = omega (arith, r.long, noted_length d) };
+          rows = λ r. record { right = noted_ways chart.net chart.no_cycle chart.once l r.long x.same r.right d; long = omega (arith, r.long, noted_length d) };
           long = noted_length d;
         }
 
     -- the links before the next one of the chain are those before k, and k
     pub spill_on :
-        {amounts' ex' la' ways' : List ℕ} → 0 < get_or ex g 0 → Offered k g q (least_for end) ends amounts ex la ways t amounts' ex' la' ways'
+        {chains amounts' ex' la' ways' : List ℕ} → Index n e end (end_in ends end) chains → 0 < get_or ex g 0
+        → Offered k g q (least_for end) ends amounts ex la ways t amounts' ex' la' ways'
         → Spilling n e end g ends amounts₀ ex₀ la₀ ways₀ t amounts' ex' la' ways' (get_or chains (next_at end k) 0)
-    spill_on pos o =
+    spill_on {chains} index pos o =
         record { spilled = go w.spilled (step o); within = after.within; hit = λ h. after.hit h ∙ w.hit l }
       where
         after : IsNext e (end_in ends end) (end_in ends end k) (k + 1) (get_or chains (next_at end k) 0)
-        after = p.index.nexts k l
+        after = index.nexts k l
 
         -- nobody takes anything before the next link of the chain
         dry_before :
@@ -215,31 +216,19 @@ module _ {n e end g : ℕ} {ends chains amounts₀ ex₀ la₀ ways₀ t : List 
       go nothing (none dry) = none (λ pos. absurd (omega arith))
       go nothing (some r up x) = some r up x
 
-  pub spill_done : {amounts ex la ways : List ℕ} {k : ℕ} → e ≤ k → Spilling n e end g ends amounts₀ ex₀ la₀ ways₀ t amounts ex la ways k
-      → Spilled n e e end g ends amounts₀ ex₀ la₀ ways₀ t amounts ex la ways
-  spill_done h w = go h w.spilled
-    where
-      go : {amounts ex la ways : List ℕ} {k : ℕ} → e ≤ k → Spilled n e k end g ends amounts₀ ex₀ la₀ ways₀ t amounts ex la ways
-          → Spilled n e e end g ends amounts₀ ex₀ la₀ ways₀ t amounts ex la ways
-      go last (none dry) = none (λ pos j l. dry pos j (omega arith))
-      go last (some r up x) = some r up x
-
 -- ---- the turn
 
-module _ {n e g : ℕ} {ends chains amounts ex la ways t : List ℕ} (c : Turnable n e g ends chains amounts ex la ways t) where
-  pub turn_forth : Spillable n e 0 g ends chains amounts ex la ways t
-  turn_forth = record { course = c.course; rows = c.rows; below = c.below; which = inl refl; index = c.forth; t_long = c.t_long }
-
+module _ {n e g : ℕ} {ends amounts ex la ways t : List ℕ} (c : Turnable n e g ends amounts ex la ways t) where
   module _ {amounts' ex' la' ways' : List ℕ} (first : Spilled n e e 0 g ends amounts ex la ways t amounts' ex' la' ways') where
-    pub turn_back : Spillable n e 1 g ends chains amounts' ex' la' ways' t
+    pub turn_back : Spillable n e 1 g ends amounts' ex' la' ways' t
     turn_back =
         let r = spilled_ran first in
-        record { course = course_after c.course r.flowed; rows = r.rows c.rows; below = c.below; which = inr refl; index = c.back; t_long = c.t_long }
+        record { afloat = afloat_after c.afloat r.flowed; rows = r.rows c.rows; below = c.below; which = inr refl; t_long = c.t_long }
 
   -- The link through which it can pay is one of the two chains, so something was sent.
   pub turn_sent :
       {amounts' ex' la' ways' amounts'' ex'' la'' ways'' : List ℕ} → 0 < get_or ex g 0 → Spilled n e e 0 g ends amounts ex la ways t amounts' ex' la' ways'
-      → Spilled n e e 1 g ends amounts' ex' la' ways' t amounts'' ex'' la'' ways'' → Turned n e g ends amounts ex la ways t amounts'' ex'' la'' ways'' 1
+      → Spilled n e e 1 g ends amounts' ex' la' ways' t amounts'' ex'' la'' ways'' → Turned n e g ends amounts ex la ways t amounts'' ex'' la'' ways'' true
   turn_sent pos (none dry) (none dry') = absurd (go c.way)
     where
       go : Way (copied n e ends) (flowing amounts) c.k g c.p → ⊥
@@ -249,12 +238,8 @@ module _ {n e g : ℕ} {ends chains amounts ex la ways t : List ℕ} (c : Turnab
   turn_sent pos (some r up x) (none dry) = sent r up x
   turn_sent pos (some r up x) (some r' up' x') = sent (ran_on r r') (λ j h. omega (arith, up j h, up' j h)) (passed_on t r.flowed r'.flowed x x')
 
-pub turned_one : {n e g r : ℕ} {ends amounts ex la ways t amounts' ex' la' ways' : List ℕ} → Turned n e g ends amounts ex la ways t amounts' ex' la' ways' r → r ≤ 1
-turned_one (rests z) = omega arith
-turned_one (sent f up passed) = omega arith
-
 pub turned_ran :
-    {n e g r : ℕ} {ends amounts ex la ways t amounts' ex' la' ways' : List ℕ} → Turned n e g ends amounts ex la ways t amounts' ex' la' ways' r
+    {n e g : ℕ} {r : Bool} {ends amounts ex la ways t amounts' ex' la' ways' : List ℕ} → Turned n e g ends amounts ex la ways t amounts' ex' la' ways' r
     → Ran n e ends amounts ex la ways amounts' ex' la' ways'
 turned_ran (rests z) = ran_none
 turned_ran (sent f up passed) = f

@@ -12,7 +12,7 @@ use lib.Dec.{ltb}
 use borrow.Author.Tests.{ltb-true, ltb-false}
 use Rattle.bits.specs.Bits.{digit, bit, cut_bit}
 use Rattle.bits.proofs.BitLaws.{digit_bound, and_digit, and_both, xor_less, half_bit, cut_same, cut_other, cut_length}
-use Rattle.flow.specs.Drains.{Placed, InRow, Joinable, Joined, Grew, Growable, Seeable, SawHalf, Others, OthersOf}
+use Rattle.flow.specs.Drains.{Placed, InRow, Joinable, Joined, Grew, Seeable, SawHalf, Others, OthersOf, Growable}
 
 -- ---- one step after the other
 
@@ -26,19 +26,6 @@ row_stays same h p =
     }
 
 module _ {n : ℕ} {ways : List ℕ} where
-  pub grew_none : {t order : List ℕ} {c : ℕ} → Placed n t order c → Grew n ways t order c t order c
-  grew_none p =
-      record {
-        placed = p;
-        more = omega arith;
-        order_same = λ i h. refl;
-        rows = λ i h k. absurd (omega arith);
-        marks = λ g m. m;
-        rest = λ g h. refl;
-        t_long = refl;
-        order_long = refl;
-      }
-
   pub grew_on :
       {t order t' order' t'' order'' : List ℕ} {c c' c'' : ℕ} → Grew n ways t order c t' order' c' → Grew n ways t' order' c' t'' order'' c''
       → Grew n ways t order c t'' order'' c''
@@ -58,23 +45,7 @@ module _ {n : ℕ} {ways : List ℕ} where
       go i h k true e = let l = ltb-true i c' e in row_stays b.order_same l (a.rows i h l)
       go i h k false e = b.rows i (ltb-false i c' e) k
 
--- what the next step asks
-pub grew_growable :
-    {n c c' : ℕ} {ways t order t' order' : List ℕ} → Growable n ways t order c → Grew n ways t order c t' order' c' → Growable n ways t' order' c'
-grew_growable p a =
-    record {
-      few = p.few;
-      ways_long = p.ways_long;
-      inside = p.inside;
-      placed = a.placed;
-      t_long = omega (arith, a.t_long, p.t_long);
-      order_long = omega (arith, a.order_long, p.order_long);
-    }
-
 -- ---- who has not joined, noted group by group
-
-pub others_none : (order others : List ℕ) → OthersOf order 0 others others
-others_none order others = record { taken = λ i h. absurd (omega arith); left = λ g l d. refl; long = refl }
 
 pub others_more :
     {i : ℕ} {order others₀ others : List ℕ} → get_or order i 0 < 128 → 2 ≤ length others → ((j : ℕ) → j < i → get_or order j 0 < 128) → OthersOf order i others₀ others
@@ -229,3 +200,29 @@ module _ {n p half c : ℕ} {ways others t order : List ℕ} (s : Seeable n p ha
           who = saw_who;
           long = length-set others half (bit_xor left_word fresh_word);
         }
+
+pub grew_none : {n c : ℕ} {ways t order : List ℕ} → Placed n t order c → Grew n ways t order c t order c
+grew_none p =
+    record {
+      placed = p;
+      more = omega arith;
+      order_same = λ i h. refl;
+      rows = λ i h k. absurd (omega arith);
+      marks = λ g m. m;
+      rest = λ g h. refl;
+      t_long = refl;
+      order_long = refl;
+    }
+
+-- what the next step asks
+pub grew_growable :
+    {n c c' : ℕ} {ways t order t' order' : List ℕ} → Growable n ways t order c → Grew n ways t order c t' order' c' → Growable n ways t' order' c'
+grew_growable p a =
+    record {
+      few = p.few;
+      ways_long = p.ways_long;
+      inside = p.inside;
+      placed = a.placed;
+      t_long = omega (arith, a.t_long, p.t_long);
+      order_long = omega (arith, a.order_long, p.order_long);
+    }

@@ -104,18 +104,24 @@ module _ {n e : ℕ} {links plus minus marks amounts ends p m : List ℕ} (c : W
   unfolding total
   heavy_course =
       record {
-        net = heavy_copy;
-        no_cycle = alike_no_cycle {x = λ k. 0} (given_alike (bare_given n e links) o (λ k l. refl)) c.no_cycle;
-        once = λ j k a b f t. c.once j k a b (sym (o.from j a) ∙ f ∙ o.from k b) (sym (o.to j a) ∙ t ∙ o.to k b);
-        amounts_long = amounts_long;
-        ex_long = omega (arith, h.plus_long, c.plus_long);
-        la_long = omega (arith, h.minus_long, c.minus_long);
-        safe =
+        chart =
             record {
-              weights = listed plus minus;
-              balanced = none_balanced ends none_yet h (listed_weighed plus minus);
-              lean = λ g l. omega (arith, h.below g l);
-              small = c.small;
+              net = heavy_copy;
+              no_cycle = alike_no_cycle {x = λ k. 0} (given_alike (bare_given n e links) o (λ k l. refl)) c.no_cycle;
+              once = λ j k a b f t. c.once j k a b (sym (o.from j a) ∙ f ∙ o.from k b) (sym (o.to j a) ∙ t ∙ o.to k b);
+            };
+        afloat =
+            record {
+              amounts_long = amounts_long;
+              ex_long = omega (arith, h.plus_long, c.plus_long);
+              la_long = omega (arith, h.minus_long, c.minus_long);
+              safe =
+                  record {
+                    weights = listed plus minus;
+                    balanced = none_balanced ends none_yet h (listed_weighed plus minus);
+                    lean = λ g l. omega (arith, h.below g l);
+                    small = c.small;
+                  };
             };
       }
 
@@ -128,7 +134,7 @@ module _ {n e : ℕ} {links plus minus marks amounts ends p m : List ℕ} (c : W
   heavy_puttable l w =
       record {
         few = omega (arith, c.net.few_links);
-        long = omega (arith, (course_after heavy_course w.flowed).amounts_long);
+        long = omega (arith, (course_after heavy_course w.flowed).afloat.amounts_long);
         room = omega (arith, c.amounts_long);
       }
 

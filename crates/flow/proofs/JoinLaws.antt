@@ -100,21 +100,6 @@ pub record Joining (n half w : ℕ) (t order : List ℕ) (c : ℕ) (t' order' : 
   pub order_long : length order' ≡ length order
 
 module _ {n half w c₀ : ℕ} {t₀ order₀ : List ℕ} (p : Joinable n half w t₀ order₀ c₀) where
-  pub joining_begins : w < 2 ^ 64 → Joining n half w t₀ order₀ c₀ t₀ order₀ c₀ w
-  joining_begins small =
-      record {
-        placed = p.placed;
-        more = omega arith;
-        order_same = λ i h. refl;
-        new = λ j h k. absurd (omega arith);
-        here = λ i h. refl;
-        part = λ i. omega arith;
-        small = small;
-        else = λ g d. refl;
-        t_long = refl;
-        order_long = refl;
-      }
-
   module _ {c left : ℕ} {t order : List ℕ} (s : Joining n half w t₀ order₀ c₀ t order c left) where
     pub joining_done : left ≡ 0 → Joined n half w t₀ order₀ c₀ t order c
     joining_done z =

@@ -20,5 +20,4 @@ pub mod FlowLaws
 pub mod ApartLaws
 pub mod WaveLaws
 pub mod TideLaws
-pub mod HalfLaws
 pub mod HeavyLaws

@@ -5,14 +5,14 @@ use mathlib.Core.Path.{◌≡◌, refl, sym, ap, ◌∙◌}
 use mathlib.Core.Bool.{Bool, true, false}
 use mathlib.Core.List.{List}
 use lib.ListN.{length, get_or, set, length-set}
-use lib.Seq.{get_or-set_same, get_or-set_other, set-get_or}
+use lib.Seq.{get_or-set_same, get_or-set_other}
 use lib.Dec.{eqb}
 use borrow.Author.Tests.{eqb-true, eqb-false, eq-eqb, ne_eqb}
 use Rattle.survey.specs.Survey.{Survey}
 use Rattle.survey.specs.Sets.{sum, only}
 use Rattle.survey.specs.Rounds.{Weights}
 use Rattle.survey.specs.Balance.{Amounts, gets, pays, credit, debit, excess, lack}
-use Rattle.flow.specs.Sends.{Balanced, Receivable, Moves}
+use Rattle.flow.specs.Sends.{Balanced, Moves}
 use Rattle.flow.proofs.SumLaws.{sum_change}
 
 -- link k has d more in x' than in x, and each other link the same
@@ -144,17 +144,3 @@ module _ {k g p d y : ℕ} {amounts ex la amounts' ex' la' : List ℕ} (m : Move
       deep h l false a false c = moved_lack_else h (eqb-false h p c) ∙ b.below h l ∙ sym (else_lack r h (eqb-false h g a) (eqb-false h p c))
 
 -- ---- what `receive` stores
-
--- what does not reach beyond the lack is no excess
-pub received_none : (ex : List ℕ) (p : ℕ) {d short : ℕ} → d ≤ short → ex ≡ set ex p (get_or ex p 0 + (d - short))
-received_none ex p {d} {short} h =
-    let same : get_or ex p 0 + (d - short) ≡ get_or ex p 0 = omega arith in
-    rw same (sym (set-get_or ex p 0))
-
--- what reaches beyond leaves none of it
-pub received_all : (la : List ℕ) (p : ℕ) {d : ℕ} → get_or la p 0 < d → set la p 0 ≡ set la p (get_or la p 0 - d)
-received_all la p {d} h = let none : get_or la p 0 - d ≡ 0 = omega arith in rw none
-
-pub receivable_after : (v : ℕ) {g p d : ℕ} {ex la : List ℕ} → (p ≡ g → ⊥) → Receivable p d ex la → Receivable p d (set ex g v) la
-receivable_after v {g} {p} {d} {ex} apart r =
-    record { ex_within = simp length-set r.ex_within; la_within = r.la_within; fits = rw (get_or-set_other ex g p v 0 apart) r.fits }

@@ -1,5 +1,5 @@
 -- Laws of a whole wave: what has grown can be gone back through; and where nobody sent, the set that drains is dry.
-use Prim.Native.Nat.{ℕ, ◌*◌, ◌≤◌, ◌<◌}
+use Prim.Native.Nat.{ℕ, ◌≤◌, ◌<◌}
 use native.Mathlib.Omega.{arith}
 use mathlib.Core.Path.{◌≡◌, refl, sym, ◌∙◌}
 use mathlib.Core.Bool.{Bool, true, false, not}
@@ -14,16 +14,16 @@ use Rattle.survey.specs.Balance.{Amounts}
 use Rattle.survey.specs.Words.{marked_set}
 use Rattle.survey.specs.Sound.{Inside}
 use Rattle.flow.specs.Chains.{head_at, next_at, Chainable, Chained}
-use Rattle.flow.specs.Ways.{WaysFound}
-use Rattle.flow.specs.Drains.{Growable, Begun, Grown, Least}
-use Rattle.flow.specs.Waves.{unmarked, Remarked, Apartable, SetApart, Pourable, Still, Poured, WavesAsk, Wavable, Dry, Waved, WavedOnce, WavedAll, WavesStart, WavesEnd}
+use Rattle.flow.specs.Drains.{Begun, Grown, Least}
+use Rattle.flow.specs.Sends.{Chart}
+use Rattle.flow.specs.Waves.{Apartable, unmarked, Remarked, SetApart, Pourable, Still, Poured, Wavable, Dry, WavedOnce, WavedAll, WavesStart, WavesEnd, WavesAsk, Waved}
 use Rattle.flow.proofs.JoinLaws.{placed_most}
-use Rattle.flow.proofs.DrainLaws.{ways_growable, grown_hops, grown_least}
-use Rattle.flow.proofs.ChainLaws.{other_head, index_stays}
+use Rattle.flow.proofs.DrainLaws.{grown_hops, grown_least}
+use Rattle.flow.proofs.ChainLaws.{other_head}
 use Rattle.flow.proofs.CopyLaws.{end_small, end_below}
 use Rattle.flow.proofs.SafeLaws.{net_inside}
 use Rattle.flow.proofs.ApartLaws.{apart_coming, apart_remarked, apart_ahead, apart_began}
-use Rattle.flow.proofs.FlowLaws.{ran_none, ran_on, course_after, lack_no_excess}
+use Rattle.flow.proofs.FlowLaws.{lack_no_excess, ran_none, ran_on, afloat_after}
 
 -- The least set is one as far as the survey's groups go.
 pub least_same : {s : Survey} {x : Amounts} {la : ℕ → ℕ} {T T' : Set} → Inside s → Same s T T' → Least s x la T → Least s x la T'
@@ -53,13 +53,8 @@ bit {u} h = go (eqb u 1) refl
         let none : u ≡ 0 = omega arith in
         rw none
 
-module _ {n e c : ℕ} {ends chains amounts ex la ways t₀ order₀ t₁ order₁ : List ℕ} (p : Wavable n e ends chains amounts ex la ways t₀ order₀)
+module _ {n e c : ℕ} {ends amounts ex la ways t₀ order₀ t₁ order₁ : List ℕ} (chart : Chart n e ends) (p : Wavable n e ends amounts ex la ways t₀ order₀)
     (b : Begun n la t₀ order₀ t₁ order₁ c) where
-  pub wave_growable : Growable n ways t₁ order₁ c
-  wave_growable =
-      ways_growable p.ask.course.net p.ask.rows.right p.ask.rows.long b.placed (omega (arith, b.t_long, p.ask.t_long))
-      (omega (arith, b.order_long, p.order_long))
-
   module _ {t₂ order₂ : List ℕ} {c' : ℕ} (w : Grown n ways t₁ order₁ c t₂ order₂ c') where
     starts : (j : ℕ) → j < c → 0 < get_or la (get_or order₂ j 0) 0
     starts j h = rw (w.grew.order_same j h) (b.starts j h)
@@ -67,25 +62,23 @@ module _ {n e c : ℕ} {ends chains amounts ex la ways t₀ order₀ t₁ order�
     pub wave_apartable : Apartable t₂ order₂ c
     wave_apartable =
         record {
-          few = omega (arith, placed_most b.placed, p.ask.course.net.few_groups);
+          few = omega (arith, placed_most b.placed, chart.net.few_groups);
           order_long = omega (arith, placed_most b.placed, b.order_long, w.grew.order_long, p.order_long);
-          group = λ i h. omega (arith, w.grew.placed.group i (omega (arith, w.grew.more)), p.ask.course.net.few_groups);
+          group = λ i h. omega (arith, w.grew.placed.group i (omega (arith, w.grew.more)), chart.net.few_groups);
           within = λ i h. omega (arith, w.grew.placed.group i (omega (arith, w.grew.more)), b.t_long, w.grew.t_long, p.ask.t_long);
         }
 
-    pub wave_pourable : {t : List ℕ} → SetApart t₂ order₂ c t → Pourable n e ends chains amounts ex la ways t order₂ c c'
+    pub wave_pourable : {t : List ℕ} → SetApart t₂ order₂ c t → Pourable n e ends amounts ex la ways t order₂ c c'
     wave_pourable a =
         record {
-          course = p.ask.course;
+          afloat = p.ask.afloat;
           rows = p.ask.rows;
-          forth = p.ask.forth;
-          back = p.ask.back;
           more = w.grew.more;
           most = placed_most w.grew.placed;
           group = w.grew.placed.group;
           once = w.grew.placed.once;
           starts = starts;
-          hops = grown_hops p.ask.rows.right p.ask.course.net.few_groups w;
+          hops = grown_hops p.ask.rows.right chart.net.few_groups w;
           began = apart_began w.grew.placed w.grew.more a la starts;
           marked = apart_coming w.grew.placed w.grew.more a;
           ahead = apart_ahead w.grew.placed w.grew.more a;
@@ -93,7 +86,7 @@ module _ {n e c : ℕ} {ends chains amounts ex la ways t₀ order₀ t₁ order�
           order_long = omega (arith, b.order_long, w.grew.order_long, p.order_long);
         }
 
-    module _ {amounts' ex' la' ways' t t₃ : List ℕ} {r : ℕ} (a : SetApart t₂ order₂ c t) (v : Poured n e ends amounts ex la ways t order₂ c c' amounts' ex' la' ways' t₃ r) where
+    module _ {amounts' ex' la' ways' t t₃ : List ℕ} {r : Bool} (a : SetApart t₂ order₂ c t) (v : Poured n e ends amounts ex la ways t order₂ c c' amounts' ex' la' ways' t₃ r) where
       remarked : Remarked n t₂ t₃
       remarked = remarked_on (apart_remarked w.grew.placed w.grew.more a) v.remarked
 
@@ -103,7 +96,7 @@ module _ {n e c : ℕ} {ends chains amounts ex la ways t₀ order₀ t₁ order�
       dry : Still amounts ex la order₂ c c' amounts' ex' la' → Dry n e ends amounts ex la t₃
       dry s =
           record {
-            least = least_same (net_inside p.ask.course.net) (record { at = drains }) (grown_least b p.ask.rows.right p.ask.course.net w);
+            least = least_same (net_inside chart.net) (record { at = drains }) (grown_least b p.ask.rows.right chart.net w);
             dry = λ g l m. none g l (eqb-true (get_or t₂ g 0) 1 (drains g l ∙ m));
           }
         where
@@ -111,7 +104,7 @@ module _ {n e c : ℕ} {ends chains amounts ex la ways t₀ order₀ t₁ order�
           none g l m = let f = w.grew.placed.cover g l m in rw f.2 at (go f.0 f.1 (ltb f.0 c) refl)
             where
               go : (j : ℕ) → j < c' → (q : Bool) → ltb j c ≡ q → get_or ex (get_or order₂ j 0) 0 ≡ 0
-              go j k true q = lack_no_excess p.ask.course (get_or order₂ j 0) (w.grew.placed.group j k) (starts j (ltb-true j c q))
+              go j k true q = lack_no_excess p.ask.afloat (get_or order₂ j 0) (w.grew.placed.group j k) (starts j (ltb-true j c q))
               go j k false q = s.dry j (ltb-false j c q) k
 
       pub wave_once : WavedOnce n e ends amounts ex la ways t₀ order₀ amounts' ex' la' ways' t₃ order₂ r
@@ -139,14 +132,12 @@ pub waved_on :
 waved_on a b = record { ran = ran_on a.ran b.ran; rest = λ g h. b.rest g h ∙ a.rest g h; long = b.long ∙ a.long }
 
 pub ask_after :
-    {n e : ℕ} {ends chains amounts ex la ways t amounts' ex' la' ways' t' : List ℕ} → WavesAsk n e ends chains amounts ex la ways t
-    → Waved n e ends amounts ex la ways t amounts' ex' la' ways' t' → WavesAsk n e ends chains amounts' ex' la' ways' t'
+    {n e : ℕ} {ends amounts ex la ways t amounts' ex' la' ways' t' : List ℕ} → WavesAsk n e ends amounts ex la ways t
+    → Waved n e ends amounts ex la ways t amounts' ex' la' ways' t' → WavesAsk n e ends amounts' ex' la' ways' t'
 ask_after p w =
     record {
-      course = course_after p.course w.ran.flowed;
+      afloat = afloat_after p.afloat w.ran.flowed;
       rows = w.ran.rows p.rows;
-      forth = p.forth;
-      back = p.back;
       t_long = omega (arith, w.long, p.t_long);
     }
 
@@ -157,30 +148,20 @@ module _ {n e : ℕ} {ends amounts ex la t : List ℕ} (p : WavesStart n e ends 
       → Chainable ends n e end chains
   settle_chainable {end} which long empty =
       record {
-        few_groups = p.course.net.few_groups;
-        few_links = p.course.net.few_links;
+        few_groups = p.course.chart.net.few_groups;
+        few_links = p.course.chart.net.few_links;
         small = end_small which;
-        ends_long = p.course.net.ends_long;
+        ends_long = p.course.chart.net.ends_long;
         long = long;
-        below = end_below p.course.net which;
+        below = end_below p.course.chart.net which;
         empty = empty;
       }
 
   module _ {chains₀ chains₁ : List ℕ} (first : Chained ends n e 0 chains₀ chains₁) where
     -- by the other end the chains are empty still
     pub settle_empty : ((i : ℕ) → i < next_at 0 0 → get_or chains₀ i 0 ≡ e) → (g : ℕ) → g < n → get_or chains₁ (head_at 1 g) 0 ≡ e
-    settle_empty empty g l = first.else (head_at 1 g) (other_head (omega (arith, p.course.net.few_groups))) ∙ empty (head_at 1 g) (omega (arith, p.course.net.few_groups))
-
-    pub settle_ask : {chains ways₀ ways : List ℕ} → 2 * n ≤ length ways₀ → WaysFound n e ends amounts ways₀ ways → Chained ends n e 1 chains₁ chains
-        → WavesAsk n e ends chains amounts ex la ways t
-    settle_ask room f second =
-        record {
-          course = p.course;
-          rows = record { right = f.found; long = omega (arith, f.long) };
-          forth = index_stays p.course.net.few_groups p.course.net.few_links first.index second;
-          back = second.index;
-          t_long = p.t_long;
-        }
+    settle_empty empty g l = first.else (head_at 1 g) (other_head (omega (arith, p.course.chart.net.few_groups)))
+        ∙ empty (head_at 1 g) (omega (arith, p.course.chart.net.few_groups))
 
 pub settled : {n e : ℕ} {ends amounts ex la ways t amounts' ex' la' ways' t' : List ℕ} → WavedAll n e ends amounts ex la ways t amounts' ex' la' ways' t'
     → WavesEnd n e ends amounts ex la t amounts' ex' la' t'

@@ -2,7 +2,7 @@
 use Prim.Native.Nat.{ℕ, ◌+◌, ◌≤◌, ◌<◌}
 use native.Mathlib.Omega.{arith}
 use mathlib.Core.Path.{◌≡◌, refl, sym, ap, ◌∙◌}
-use mathlib.Core.Bool.{Bool, true, false}
+use mathlib.Core.Bool.{Bool, true, false, ◌||◌}
 use mathlib.Core.List.{List}
 use lib.ListN.{length, get_or, set, length-set}
 use lib.Seq.{get_or-set_same, get_or-set_other}
@@ -14,12 +14,9 @@ use Rattle.flow.specs.Ways.{Way, pays, gives_back}
 use Rattle.flow.specs.Drains.{Hop}
 use Rattle.flow.specs.Waves.{Ran, lacks, unmarked, Remarked, Coming, Ahead, Passed, fallen, full, onward, Rises, Turned, rests, sent, Turnable, Pourable, Still, Poured}
 use Rattle.flow.proofs.JoinLaws.{set_by}
-use Rattle.flow.proofs.FlowLaws.{ran_none, ran_on, course_after, lacks_fall, lack_no_excess, turned_ran, turned_one}
+use Rattle.flow.proofs.FlowLaws.{ran_on, afloat_after, lacks_fall, lack_no_excess, turned_ran}
 
 -- ---- the marks of the groups that are passed
-
-pub remarked_none : {n : ℕ} {t : List ℕ} → Remarked n t t
-remarked_none = record { same = λ g. refl; rest = λ g h. refl; long = refl }
 
 pub passed_remarked : {n : ℕ} {t₀ : List ℕ} (t : List ℕ) (g : ℕ) → g < n → n ≤ length t → Coming t g → Remarked n t₀ t → Remarked n t₀ (set t g 2)
 passed_remarked {n} {t₀} t g below room mark r =
@@ -47,16 +44,27 @@ passed_ahead {n} t order i below room a = record { at = λ h l m. go h l m (eqb 
 
 -- ---- turn after turn
 
--- How far it went: nobody has sent yet; or a lack has fallen; or no lack has changed, and a group that is still to come has an excess.
-pub data Went (n : ℕ) (amounts₀ ex₀ la₀ amounts ex la order : List ℕ) (count i r : ℕ) : Type 0 where
-  idle : r ≡ 0 → amounts ≡ amounts₀ → ex ≡ ex₀ → la ≡ la₀ → ((j : ℕ) → i ≤ j → j < count → get_or ex₀ (get_or order j 0) 0 ≡ 0)
-      → Went n amounts₀ ex₀ la₀ amounts ex la order count i r
-  fell : 0 < r → lacks n la < lacks n la₀ → Went n amounts₀ ex₀ la₀ amounts ex la order count i r
-  level : 0 < r → ((h : ℕ) → get_or la h 0 ≡ get_or la₀ h 0) → (j : ℕ) → j < i → 0 < get_or ex (get_or order j 0) 0 → Went n amounts₀ ex₀ la₀ amounts ex la order count i r
+true-false : true ≡ false → ⊥
+true-false z = cc
 
-pub record Pouring (n e : ℕ) (ends amounts₀ ex₀ la₀ ways₀ t₀ order : List ℕ) (started count : ℕ) (amounts ex la ways t : List ℕ) (r i : ℕ) : Type 0 where
+or_false : (r : Bool) → (r || false) ≡ r
+or_false true = refl
+or_false false = refl
+
+or_true : (r : Bool) → (r || true) ≡ true
+or_true true = refl
+or_true false = refl
+
+-- How far it went: nobody has sent yet; or a lack has fallen; or no lack has changed, and a group that is still to come has an excess.
+pub data Went (n : ℕ) (amounts₀ ex₀ la₀ amounts ex la order : List ℕ) (count i : ℕ) (r : Bool) : Type 0 where
+  idle : r ≡ false → amounts ≡ amounts₀ → ex ≡ ex₀ → la ≡ la₀ → ((j : ℕ) → i ≤ j → j < count → get_or ex₀ (get_or order j 0) 0 ≡ 0)
+      → Went n amounts₀ ex₀ la₀ amounts ex la order count i r
+  fell : r ≡ true → lacks n la < lacks n la₀ → Went n amounts₀ ex₀ la₀ amounts ex la order count i r
+  level : r ≡ true → ((h : ℕ) → get_or la h 0 ≡ get_or la₀ h 0) → (j : ℕ) → j < i → 0 < get_or ex (get_or order j 0) 0 → Went n amounts₀ ex₀ la₀ amounts ex la order count i r
+
+pub record Pouring (n e : ℕ) (ends amounts₀ ex₀ la₀ ways₀ t₀ order : List ℕ) (started count : ℕ) (amounts ex la ways t : List ℕ) (r : Bool) (i : ℕ) : Type 0 where
   pub from : started ≤ i
-  pub within : r + i ≤ count
+  pub within : i ≤ count
   pub ran : Ran n e ends amounts₀ ex₀ la₀ ways₀ amounts ex la ways
   pub hops : (j : ℕ) → started ≤ j → j < i → Hop (copied n e ends) (flowing amounts) order j
   pub remarked : Remarked n t₀ t
@@ -65,22 +73,8 @@ pub record Pouring (n e : ℕ) (ends amounts₀ ex₀ la₀ ways₀ t₀ order :
   pub ahead : Ahead n t order i
   pub went : Went n amounts₀ ex₀ la₀ amounts ex la order count i r
 
-module _ {n e started count : ℕ} {ends chains amounts₀ ex₀ la₀ ways₀ t₀ order : List ℕ} (p : Pourable n e ends chains amounts₀ ex₀ la₀ ways₀ t₀ order started count) where
-  pub pour_begins : Pouring n e ends amounts₀ ex₀ la₀ ways₀ t₀ order started count amounts₀ ex₀ la₀ ways₀ t₀ 0 count
-  pour_begins =
-      record {
-        from = p.more;
-        within = omega arith;
-        ran = ran_none;
-        hops = p.hops;
-        remarked = remarked_none;
-        began = p.began;
-        marked = p.marked;
-        ahead = p.ahead;
-        went = idle refl refl refl refl (λ j a b. absurd (omega arith));
-      }
-
-  module _ {amounts ex la ways t : List ℕ} {r m i : ℕ} (w : Pouring n e ends amounts₀ ex₀ la₀ ways₀ t₀ order started count amounts ex la ways t r m) (at : m ≡ i + 1)
+module _ {n e started count : ℕ} {ends amounts₀ ex₀ la₀ ways₀ t₀ order : List ℕ} (p : Pourable n e ends amounts₀ ex₀ la₀ ways₀ t₀ order started count) where
+  module _ {amounts ex la ways t : List ℕ} {r : Bool} {m i : ℕ} (w : Pouring n e ends amounts₀ ex₀ la₀ ways₀ t₀ order started count amounts ex la ways t r m) (at : m ≡ i + 1)
       (on : started ≤ i) where
     within : i < count
     within = omega (arith, w.within)
@@ -101,10 +95,10 @@ module _ {n e started count : ℕ} {ends chains amounts₀ ex₀ la₀ ways₀ t
         set_by t (get_or order i 0) 2 (λ h v. h < n → v ≡ 3 → 0 < get_or la₀ h 0) (omega (arith, p.group i within, room)) (λ l z. absurd (omega arith)) (λ j d. w.began j)
 
     -- the group at place i is passed, and one before it stands at the other end of its link
-    pub pour_turnable : Turnable n e (get_or order i 0) ends chains amounts ex la ways (set t (get_or order i 0) 2)
+    pub pour_turnable : Turnable n e (get_or order i 0) ends amounts ex la ways (set t (get_or order i 0) 2)
     pour_turnable =
         record {
-          course = course_after p.course w.ran.flowed;
+          afloat = afloat_after p.afloat w.ran.flowed;
           rows = w.ran.rows p.rows;
           below = p.group i within;
           k = hop.link;
@@ -112,8 +106,6 @@ module _ {n e started count : ℕ} {ends chains amounts₀ ex₀ la₀ ways₀ t
           p = get_or order hop.earlier 0;
           way = hop.way;
           mark = marked_after hop.earlier hop.before;
-          forth = p.forth;
-          back = p.back;
           t_long = simp length-set room;
         }
 
@@ -132,18 +124,18 @@ module _ {n e started count : ℕ} {ends chains amounts₀ ex₀ la₀ ways₀ t
     ahead : Ahead n (set t (get_or order i 0) 2) order i
     ahead = passed_ahead t order i (p.group i within) room (rw at at w.ahead)
 
-    went_after : {amounts' ex' la' ways' : List ℕ} {r' : ℕ} → Turned n e (get_or order i 0) ends amounts ex la ways (set t (get_or order i 0) 2) amounts' ex' la' ways' r'
-        → Went n amounts₀ ex₀ la₀ amounts' ex' la' order count i (r + r')
+    went_after : {amounts' ex' la' ways' : List ℕ} {r' : Bool} → Turned n e (get_or order i 0) ends amounts ex la ways (set t (get_or order i 0) 2) amounts' ex' la' ways' r'
+        → Went n amounts₀ ex₀ la₀ amounts' ex' la' order count i (r || r')
     went_after {r' = r'} (rests z) = go w.went
       where
-        go : Went n amounts₀ ex₀ la₀ amounts ex la order count m r → Went n amounts₀ ex₀ la₀ amounts ex la order count i (r + 0)
-        go (idle a b c d dry) = idle (omega arith) b c d (λ j u v. here j u v (eqb j i) refl)
+        go : Went n amounts₀ ex₀ la₀ amounts ex la order count m r → Went n amounts₀ ex₀ la₀ amounts ex la order count i (r || false)
+        go (idle a b c d dry) = idle (or_false r ∙ a) b c d (λ j u v. here j u v (eqb j i) refl)
           where
             here : (j : ℕ) → i ≤ j → j < count → (b : Bool) → eqb j i ≡ b → get_or ex₀ (get_or order j 0) 0 ≡ 0
             here j u v true q = rw (← c, eqb-true j i q) z
             here j u v false q = let other : j ≡ i → ⊥ = eqb-false j i q in dry j (omega arith) v
-        go (fell a b) = fell (omega arith) b
-        go (level a b j c d) = level (omega arith) b j (before (eqb j i) refl) d
+        go (fell a b) = fell (or_false r ∙ a) b
+        go (level a b j c d) = level (or_false r ∙ a) b j (before (eqb j i) refl) d
           where
             before : (b : Bool) → eqb j i ≡ b → j < i
             before true q = let none : get_or ex (get_or order j 0) 0 ≡ 0 = rw (eqb-true j i q) z in absurd (omega arith)
@@ -152,9 +144,9 @@ module _ {n e started count : ℕ} {ends chains amounts₀ ex₀ la₀ ways₀ t
       where
         -- who is still to come stands before place i
         come :
-            0 < r + 1 → ((h : ℕ) → get_or la' h 0 ≡ get_or la₀ h 0) → (h : ℕ) → h < n → Coming (set t (get_or order i 0) 2) h → 0 < get_or ex' h 0
-            → Went n amounts₀ ex₀ la₀ amounts' ex' la' order count i (r + 1)
-        come pos same h l m x = let f = ahead.at h l m in level pos same f.0 f.1 (rw f.2 x)
+            ((h : ℕ) → get_or la' h 0 ≡ get_or la₀ h 0) → (h : ℕ) → h < n → Coming (set t (get_or order i 0) 2) h → 0 < get_or ex' h 0
+            → Went n amounts₀ ex₀ la₀ amounts' ex' la' order count i (r || true)
+        come same h l m x = let f = ahead.at h l m in level (or_true r) same f.0 f.1 (rw f.2 x)
 
         -- one that began had a lack
         gone : (h : ℕ) → h < n → get_or (set t (get_or order i 0) 2) h 0 ≡ 3 → get_or la' h 0 ≡ 0 → lacks n la' < lacks n la₀
@@ -162,20 +154,20 @@ module _ {n e started count : ℕ} {ends chains amounts₀ ex₀ la₀ ways₀ t
             sum_lt n (λ j. get_or la' j 0) (λ j. get_or la₀ j 0) (λ j b. (ran_on w.ran f).flowed.falls j) h l (omega (arith, began_after h l m))
 
         go : Went n amounts₀ ex₀ la₀ amounts ex la order count m r → Passed n la ex' la' (set t (get_or order i 0) 2) → Went n amounts₀ ex₀ la₀ amounts' ex' la' order count i
-            (r + 1)
-        go v (fallen lower) = fell (omega arith) (omega (arith, lacks_fall w.ran.flowed))
-        go v (full h l m z) = fell (omega arith) (gone h l m z)
-        go (idle a b c d dry) (onward same h l m x) = come (omega arith) (λ j. same j ∙ ap (λ y. get_or y j 0) d) h l m x
-        go (fell a b) (onward same h l m x) = fell (omega arith) (omega (arith, lacks_fall f.flowed))
-        go (level a b j c d) (onward same h l m x) = come (omega arith) (λ u. same u ∙ b u) h l m x
+            (r || true)
+        go v (fallen lower) = fell (or_true r) (omega (arith, lacks_fall w.ran.flowed))
+        go v (full h l m z) = fell (or_true r) (gone h l m z)
+        go (idle a b c d dry) (onward same h l m x) = come (λ j. same j ∙ ap (λ y. get_or y j 0) d) h l m x
+        go (fell a b) (onward same h l m x) = fell (or_true r) (omega (arith, lacks_fall f.flowed))
+        go (level a b j c d) (onward same h l m x) = come (λ u. same u ∙ b u) h l m x
 
     pub pour_on :
-        {amounts' ex' la' ways' : List ℕ} {r' : ℕ} → Turned n e (get_or order i 0) ends amounts ex la ways (set t (get_or order i 0) 2) amounts' ex' la' ways' r'
-        → Pouring n e ends amounts₀ ex₀ la₀ ways₀ t₀ order started count amounts' ex' la' ways' (set t (get_or order i 0) 2) (r + r') i
+        {amounts' ex' la' ways' : List ℕ} {r' : Bool} → Turned n e (get_or order i 0) ends amounts ex la ways (set t (get_or order i 0) 2) amounts' ex' la' ways' r'
+        → Pouring n e ends amounts₀ ex₀ la₀ ways₀ t₀ order started count amounts' ex' la' ways' (set t (get_or order i 0) 2) (r || r') i
     pour_on x =
         record {
           from = on;
-          within = omega (arith, w.within, turned_one x);
+          within = omega (arith, w.within);
           ran = ran_on w.ran (turned_ran x);
           hops = hops x;
           remarked = passed_remarked t (get_or order i 0) (p.group i within) room (w.marked i (omega arith)) w.remarked;
@@ -186,14 +178,14 @@ module _ {n e started count : ℕ} {ends chains amounts₀ ex₀ la₀ ways₀ t
         }
       where
         hops :
-            {amounts' ex' la' ways' : List ℕ} {r' : ℕ} → Turned n e (get_or order i 0) ends amounts ex la ways (set t (get_or order i 0) 2) amounts' ex' la' ways' r' → (j : ℕ)
+            {amounts' ex' la' ways' : List ℕ} {r' : Bool} → Turned n e (get_or order i 0) ends amounts ex la ways (set t (get_or order i 0) 2) amounts' ex' la' ways' r' → (j : ℕ)
             → started ≤ j → j < i
             → Hop (copied n e ends) (flowing amounts') order j
         hops (rests z) j a b = w.hops j a (omega arith)
         hops {amounts'} (sent f up passed) j a b = hops_after amounts' up j a b
 
   pub pour_done :
-      {amounts ex la ways t : List ℕ} {r i : ℕ} → i ≤ started → Pouring n e ends amounts₀ ex₀ la₀ ways₀ t₀ order started count amounts ex la ways t r i
+      {amounts ex la ways t : List ℕ} {r : Bool} {i : ℕ} → i ≤ started → Pouring n e ends amounts₀ ex₀ la₀ ways₀ t₀ order started count amounts ex la ways t r i
       → Poured n e ends amounts₀ ex₀ la₀ ways₀ t₀ order started count amounts ex la ways t r
   pour_done {amounts} {ex} {la} {ways} {t} {r} {i} d w =
       record {
@@ -203,14 +195,14 @@ module _ {n e started count : ℕ} {ends chains amounts₀ ex₀ la₀ ways₀ t
         fell = λ z. some z w.went;
       }
     where
-      none : r ≡ 0 → Went n amounts₀ ex₀ la₀ amounts ex la order count i r → Still amounts₀ ex₀ la₀ order started count amounts ex la
+      none : r ≡ false → Went n amounts₀ ex₀ la₀ amounts ex la order count i r → Still amounts₀ ex₀ la₀ order started count amounts ex la
       none z (idle a b c e dry) = record { amounts_same = b; ex_same = c; la_same = e; dry = λ j u v. dry j (omega arith) v }
-      none z (fell a b) = absurd (omega arith)
-      none z (level a b j c e) = absurd (omega arith)
+      none z (fell a b) = absurd (true-false (sym a ∙ z))
+      none z (level a b j c e) = absurd (true-false (sym a ∙ z))
 
-      some : 0 < r → Went n amounts₀ ex₀ la₀ amounts ex la order count i r → lacks n la < lacks n la₀
-      some z (idle a b c e dry) = absurd (omega arith)
+      some : r ≡ true → Went n amounts₀ ex₀ la₀ amounts ex la order count i r → lacks n la < lacks n la₀
+      some z (idle a b c e dry) = absurd (true-false (sym z ∙ a))
       some z (fell a b) = b
       some z (level a b j c e) =
           let group = p.group j (omega (arith, p.more)) in
-          absurd (omega (arith, lack_no_excess (course_after p.course w.ran.flowed) (get_or order j 0) group (rw (b (get_or order j 0)) (p.starts j (omega arith)))))
+          absurd (omega (arith, lack_no_excess (afloat_after p.afloat w.ran.flowed) (get_or order j 0) group (rw (b (get_or order j 0)) (p.starts j (omega arith)))))

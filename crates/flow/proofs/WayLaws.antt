@@ -12,7 +12,7 @@ use Rattle.survey.specs.Balance.{Amounts}
 use Rattle.bits.specs.Bits.{bit, put_bit, cut_bit}
 use Rattle.bits.proofs.BitLaws.{zero_bit, put_length, cut_length, put_same, put_other, cut_same, cut_other}
 use Rattle.flow.specs.Copies.{end_in, copied, Copy}
-use Rattle.flow.specs.Ways.{Way, pays, gives_back, Ways, Noted, stands, fails, Findable, WayFound, both_ways, one_way}
+use Rattle.flow.specs.Ways.{Way, pays, gives_back, Ways, Noted, stands, fails, WayFound, both_ways, one_way}
 
 -- ---- one bit
 
@@ -63,9 +63,6 @@ no_ways m p g = zero_bit (replicate m 0) p g (λ i. go i (dec_lt i m))
     go : (i : ℕ) → Dec (i < m) → ◌≡◌ {A = ℕ} (get_or (replicate m 0) i 0) 0
     go i (yes l) = get_or-replicate m i 0 0 l
     go i (no d) = get_or-eq_default (replicate m 0) 0 (omega (arith, length-replicate {A = ℕ} m 0))
-
-pub ways_none : {s : Survey} {x : Amounts} {ways : List ℕ} → ((p g : ℕ) → bit ways p g ≡ 0) → Ways s x 0 ways
-ways_none blank = record { sound = λ p g small has. absurd (omega (arith, blank p g)); complete = λ k g p below way. absurd (omega arith) }
 
 -- rows that have the ways of link k besides
 record Added (s : Survey) (x : Amounts) (k : ℕ) (ways ways' : List ℕ) : Type 0 where
@@ -158,13 +155,6 @@ module _ {n e : ℕ} {ends : List ℕ} (net : Copy n e ends) where
       → Ways (copied n e ends) x k ways → WayFound p q (x k) ways ways' → Ways (copied n e ends) x (k + 1) ways'
   ways_more {x} {k} {p} {q} {ways} l zp zq room w (both_ways some) = added_ways l (both_added x k p q l zp zq ways room some) w
   ways_more {x} {k} {p} {q} {ways} l zp zq room w (one_way none) = added_ways l (one_added x k p q l zp zq ways room none) w
-
-  pub findable : {k p q : ℕ} (ways : List ℕ) → k < e → p ≡ end_in ends 0 k → q ≡ end_in ends 1 k → 2 * n ≤ length ways → Findable p q ways
-  findable {k} ways l zp zq room =
-      record {
-        from = record { few = omega (arith, net.from k l, net.few_groups); room = omega (arith, net.to k l) };
-        to = record { few = omega (arith, net.to k l, net.few_groups); room = omega (arith, net.from k l) };
-      }
 
 -- ---- the amount on one link changes
 

@@ -4,6 +4,7 @@ pub mod Copies
 pub mod Chains
 pub mod Ways
 pub mod Drains
+pub mod Tides
 pub mod Sends
 pub mod Waves
 pub mod Heavy

@@ -1,5 +1,5 @@
 -- One send: a group with an excess pays through a link, or gives back what the link brought it, and the one at the other end has so much more.
-use Rattle.std.specs.Prelude.{ℕ, ◌+◌, ◌-◌, ◌*◌, ◌^◌, ◌<◌, ◌≤◌, ◌≡◌, ◌⊎◌, List, length, get_or, set}
+use Rattle.std.specs.Prelude.{ℕ, ◌+◌, ◌-◌, ◌*◌, ◌^◌, ◌<◌, ◌≤◌, ◌≡◌, min, List, length, get_or, set}
 use Rattle.survey.specs.Limits.{amount_limit}
 use Rattle.survey.specs.Survey.{Survey, Cycle}
 use Rattle.survey.specs.Sets.{all_groups}
@@ -21,14 +21,22 @@ pub record Safe (n e : ℕ) (ends amounts ex la : List ℕ) : Type 0 where
   pub lean : (g : ℕ) → g < n → get_or la g 0 ≤ weights.minus g
   pub small : total_plus (copied n e ends) weights all_groups ≤ amount_limit
 
-pub record Course (n e : ℕ) (ends amounts ex la : List ℕ) : Type 0 where
+-- a copy whose links have no cycle, and of which no two are the same
+pub record Chart (n e : ℕ) (ends : List ℕ) : Type 0 where
   pub net : Copy n e ends
   pub no_cycle : Cycle (copied n e ends) → ⊥
   pub once : (j k : ℕ) → j < e → k < e → end_in ends 0 j ≡ end_in ends 0 k → end_in ends 1 j ≡ end_in ends 1 k → j ≡ k
+
+-- a state with a place for each link and group, from which nothing wraps
+pub record Afloat (n e : ℕ) (ends amounts ex la : List ℕ) : Type 0 where
   pub amounts_long : e ≤ length amounts
   pub ex_long : n ≤ length ex
   pub la_long : n ≤ length la
   pub safe : Safe n e ends amounts ex la
+
+pub record Course (n e : ℕ) (ends amounts ex la : List ℕ) : Type 0 where
+  pub chart : Chart n e ends
+  pub afloat : Afloat n e ends amounts ex la
 
 -- ---- what a send does
 
@@ -61,16 +69,10 @@ pub record Moves (k g p d y : ℕ) (amounts ex la amounts' ex' la' : List ℕ) :
   pub more : ex' ≡ with_more (set ex g (get_or ex g 0 - d)) la p d
   pub less : la' ≡ with_less la p d
 
--- the lower of two numbers
-pub record Lower (a b r : ℕ) : Type 0 where
-  pub first : r ≤ a
-  pub second : r ≤ b
-  pub one : (r ≡ a) ⊎ (r ≡ b)
-
 -- what a group takes of x, by its mark: one that began the wave, which is marked 3, at most its lack, so that it has nothing to give back in the
 -- next wave; any other all of it
 pub data Takes (mark lack x d : ℕ) : Type 0 where
-  capped : mark ≡ 3 → Lower x lack d → Takes mark lack x d
+  capped : mark ≡ 3 → d ≡ min x lack → Takes mark lack x d
   free : (mark ≡ 3 → ⊥) → d ≡ x → Takes mark lack x d
 
 -- p has a place in the lists of marks and of lacks
@@ -100,5 +102,5 @@ pub data Sends (k g : ℕ) (ends amounts ex la t amounts' ex' la' : List ℕ) : 
       end_in ends 1 k ≡ g → (d : ℕ) → TakenBy (end_in ends 0 k) la t (get_or ex g 0) d → Moves k g (end_in ends 0 k) d (flowing amounts k + d) amounts ex la amounts' ex' la'
       → Sends k g ends amounts ex la t amounts' ex' la'
   gave :
-      (end_in ends 1 k ≡ g → ⊥) → (m d : ℕ) → Lower (get_or ex g 0) (flowing amounts k) m → TakenBy (end_in ends 1 k) la t m d
+      (end_in ends 1 k ≡ g → ⊥) → (d : ℕ) → TakenBy (end_in ends 1 k) la t (min (get_or ex g 0) (flowing amounts k)) d
       → Moves k g (end_in ends 1 k) d (flowing amounts k - d) amounts ex la amounts' ex' la' → Sends k g ends amounts ex la t amounts' ex' la'

@@ -1,13 +1,12 @@
 -- Waves: one after the other, until no group that drains has an excess.
-use Rattle.std.specs.Prelude.{ℕ, ◌+◌, ◌-◌, ◌*◌, ◌%◌, ◌<◌, ◌≤◌, ◌≡◌, ◌⊎◌, List, length, get_or, eqb}
+use Rattle.std.specs.Prelude.{ℕ, ◌+◌, ◌-◌, ◌*◌, ◌%◌, ◌<◌, ◌≤◌, ◌≡◌, ◌⊎◌, Bool, true, false, List, length, get_or, eqb}
 use Rattle.survey.specs.Limits.{group_limit}
 use Rattle.survey.specs.Sets.{Set, In, sum, only, outside}
 use Rattle.survey.specs.Rounds.{Weights}
 use Rattle.flow.specs.Copies.{end_in, copied, flowing}
-use Rattle.flow.specs.Chains.{Index}
 use Rattle.flow.specs.Ways.{Way, Ways, Notable, Noted}
 use Rattle.flow.specs.Drains.{Hop, Least}
-use Rattle.flow.specs.Sends.{Balanced, Course, Sendable, Sends}
+use Rattle.flow.specs.Sends.{Balanced, Afloat, Course, Sendable, Sends}
 
 -- The state has changed by sends: whatever weights it was balanced for, it still is; no lack rises; and nothing changes beyond the survey.
 pub record Flowed (n e : ℕ) (ends amounts ex la amounts' ex' la' : List ℕ) : Type 0 where
@@ -83,12 +82,11 @@ abbrev pub least_for : ℕ → ℕ
 least_for end = only (eqb end 0) 1
 
 -- along one of the chains of g
-pub record Spillable (n e end g : ℕ) (ends chains amounts ex la ways t : List ℕ) : Type 0 where
-  pub course : Course n e ends amounts ex la
+pub record Spillable (n e end g : ℕ) (ends amounts ex la ways t : List ℕ) : Type 0 where
+  pub afloat : Afloat n e ends amounts ex la
   pub rows : Rows n e ends amounts ways
   pub below : g < n
   pub which : (end ≡ 0) ⊎ (end ≡ 1)
-  pub index : Index n e end (end_in ends end) chains
   pub t_long : n ≤ length t
 
 -- through link k of g, by that end, there is something to send
@@ -105,8 +103,8 @@ pub data Spilled (n e m end g : ℕ) (ends amounts ex la ways t : List ℕ) : Li
       → Spilled n e m end g ends amounts ex la ways t amounts' ex' la' ways'
 
 -- g can pay into p, which is still to come, through link k
-pub record Turnable (n e g : ℕ) (ends chains amounts ex la ways t : List ℕ) : Type 0 where
-  pub course : Course n e ends amounts ex la
+pub record Turnable (n e g : ℕ) (ends amounts ex la ways t : List ℕ) : Type 0 where
+  pub afloat : Afloat n e ends amounts ex la
   pub rows : Rows n e ends amounts ways
   pub below : g < n
   pub k : ℕ
@@ -114,16 +112,14 @@ pub record Turnable (n e g : ℕ) (ends chains amounts ex la ways t : List ℕ) 
   pub p : ℕ
   pub way : Way (copied n e ends) (flowing amounts) k g p
   pub mark : Coming t p
-  pub forth : Index n e 0 (end_in ends 0) chains
-  pub back : Index n e 1 (end_in ends 1) chains
   pub t_long : n ≤ length t
 
 -- it had nothing to send and nothing changes; or it has sent
-pub data Turned (n e g : ℕ) (ends amounts ex la ways t : List ℕ) : List ℕ → List ℕ → List ℕ → List ℕ → ℕ → Type 0 where
-  rests : get_or ex g 0 ≡ 0 → Turned n e g ends amounts ex la ways t amounts ex la ways 0
+pub data Turned (n e g : ℕ) (ends amounts ex la ways t : List ℕ) : List ℕ → List ℕ → List ℕ → List ℕ → Bool → Type 0 where
+  rests : get_or ex g 0 ≡ 0 → Turned n e g ends amounts ex la ways t amounts ex la ways false
   sent :
       {amounts' ex' la' ways' : List ℕ} → Ran n e ends amounts ex la ways amounts' ex' la' ways' → Rises g ends amounts amounts' → Passed n la ex' la' t
-      → Turned n e g ends amounts ex la ways t amounts' ex' la' ways' 1
+      → Turned n e g ends amounts ex la ways t amounts' ex' la' ways' true
 
 -- ---- the groups that began the wave, at the first places of the order, are marked 3
 
@@ -140,11 +136,9 @@ pub record SetApart (t order : List ℕ) (c : ℕ) (t' : List ℕ) : Type 0 wher
 
 -- ---- all turns, back through the order to the groups that began it
 
-pub record Pourable (n e : ℕ) (ends chains amounts ex la ways t order : List ℕ) (started count : ℕ) : Type 0 where
-  pub course : Course n e ends amounts ex la
+pub record Pourable (n e : ℕ) (ends amounts ex la ways t order : List ℕ) (started count : ℕ) : Type 0 where
+  pub afloat : Afloat n e ends amounts ex la
   pub rows : Rows n e ends amounts ways
-  pub forth : Index n e 0 (end_in ends 0) chains
-  pub back : Index n e 1 (end_in ends 1) chains
   pub more : started ≤ count
   pub most : count ≤ n
   pub group : (j : ℕ) → j < count → get_or order j 0 < n
@@ -164,23 +158,21 @@ pub record Still (amounts ex la order : List ℕ) (started count : ℕ) (amounts
   pub la_same : la' ≡ la
   pub dry : (j : ℕ) → started ≤ j → j < count → get_or ex (get_or order j 0) 0 ≡ 0
 
-pub record Poured (n e : ℕ) (ends amounts ex la ways t order : List ℕ) (started count : ℕ) (amounts' ex' la' ways' t' : List ℕ) (r : ℕ) : Type 0 where
+pub record Poured (n e : ℕ) (ends amounts ex la ways t order : List ℕ) (started count : ℕ) (amounts' ex' la' ways' t' : List ℕ) (r : Bool) : Type 0 where
   pub ran : Ran n e ends amounts ex la ways amounts' ex' la' ways'
   pub remarked : Remarked n t t'
-  pub still : r ≡ 0 → Still amounts ex la order started count amounts' ex' la'
-  pub fell : 0 < r → lacks n la' < lacks n la
+  pub still : r ≡ false → Still amounts ex la order started count amounts' ex' la'
+  pub fell : r ≡ true → lacks n la' < lacks n la
 
 -- ---- a wave, and all waves
 
-pub record WavesAsk (n e : ℕ) (ends chains amounts ex la ways t : List ℕ) : Type 0 where
-  pub course : Course n e ends amounts ex la
+pub record WavesAsk (n e : ℕ) (ends amounts ex la ways t : List ℕ) : Type 0 where
+  pub afloat : Afloat n e ends amounts ex la
   pub rows : Rows n e ends amounts ways
-  pub forth : Index n e 0 (end_in ends 0) chains
-  pub back : Index n e 1 (end_in ends 1) chains
   pub t_long : n ≤ length t
 
-pub record Wavable (n e : ℕ) (ends chains amounts ex la ways t order : List ℕ) : Type 0 where
-  pub ask : WavesAsk n e ends chains amounts ex la ways t
+pub record Wavable (n e : ℕ) (ends amounts ex la ways t order : List ℕ) : Type 0 where
+  pub ask : WavesAsk n e ends amounts ex la ways t
   pub order_long : n ≤ length order
 
 -- what the marks say is done: those that aren't 0 are the least set that drains, and it has no excess
@@ -193,11 +185,11 @@ pub record Waved (n e : ℕ) (ends amounts ex la ways t amounts' ex' la' ways' t
   pub rest : (g : ℕ) → n ≤ g → get_or t' g 0 ≡ get_or t g 0
   pub long : length t' ≡ length t
 
-pub record WavedOnce (n e : ℕ) (ends amounts ex la ways t order amounts' ex' la' ways' t' order' : List ℕ) (r : ℕ) : Type 0 where
+pub record WavedOnce (n e : ℕ) (ends amounts ex la ways t order amounts' ex' la' ways' t' order' : List ℕ) (r : Bool) : Type 0 where
   pub waved : Waved n e ends amounts ex la ways t amounts' ex' la' ways' t'
   pub order_long : length order' ≡ length order
-  pub done : r ≡ 0 → Dry n e ends amounts' ex' la' t'
-  pub fell : 0 < r → lacks n la' < lacks n la
+  pub done : r ≡ false → Dry n e ends amounts' ex' la' t'
+  pub fell : r ≡ true → lacks n la' < lacks n la
 
 pub record WavedAll (n e : ℕ) (ends amounts ex la ways t amounts' ex' la' ways' t' : List ℕ) : Type 0 where
   pub waved : Waved n e ends amounts ex la ways t amounts' ex' la' ways' t'

@@ -10,9 +10,7 @@ pub fn chain(ends: &[u8], n: usize, e: usize, end: usize, chains: &mut [u16])
     requires { Chainable ends.now n e end chains.old }
     ensures { Chained ends.now n e end chains.old chains.new }
 {
-    let mut k = e;
-    while 0 < k {
-        k -= 1;
+    for k in (0..e).rev() {
         let head = GROUPS * end + end_in(ends, k, end);
         chains[2 * GROUPS + LINKS * end + k] = chains[head];
         chains[head] = k as u16;

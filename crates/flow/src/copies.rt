@@ -1,5 +1,7 @@
 // The working copy: a wave looks at each link many times, and in the copy a look is one byte and one number. It is made once for a call, and what
 // the waves leave is written back at its end.
+// Kept: three functions, which store two bytes for two words, a number for a long word, and a long word for a number: nothing but the loop is
+// common to them, and what reads and what writes would be two closures for each.
 ghost use Rattle.flow.specs.Copies.{Copyable, Copied, Takable, Taken, Puttable, Put};
 
 use crate::ends::end_of;
@@ -9,13 +11,11 @@ pub fn copy_ends(e: usize, links: &[u8], ends: &mut [u8])
     requires { Copyable e links.now ends.old }
     ensures { Copied e links.now ends.old ends.new }
 {
-    let mut k = 0;
-    while k < e {
+    for k in 0..e {
         let p = end_of(links, k, 0);
         let q = end_of(links, k, 4);
         ends[2 * k] = p as u8;
         ends[2 * k + 1] = q as u8;
-        k += 1;
     }
 }
 
@@ -23,10 +23,8 @@ pub fn take_amounts(e: usize, amounts: &[u8], x: &mut [u64])
     requires { Takable e amounts.now x.old }
     ensures { Taken e amounts.now x.old x.new }
 {
-    let mut k = 0;
-    while k < e {
+    for k in 0..e {
         x[k] = amount_at(amounts, k);
-        k += 1;
     }
 }
 
@@ -34,9 +32,7 @@ pub fn put_amounts(e: usize, x: &[u64], amounts: &mut [u8])
     requires { Puttable e x.now amounts.old }
     ensures { Put e x.now amounts.old amounts.new }
 {
-    let mut k = 0;
-    while k < e {
+    for k in 0..e {
         put_amount(amounts, k, x[k]);
-        k += 1;
     }
 }

@@ -2,7 +2,7 @@
 ghost use Rattle.flow.specs.Drains.{Drainable, Drained};
 
 use crate::copies::{copy_ends, take_amounts};
-use crate::drains::{begin, grow};
+use crate::drains::Queue;
 use crate::sizes::{ENDS, GROUPS, LINKS, ROWS};
 use crate::ways::find_ways;
 
@@ -19,6 +19,12 @@ pub fn drained(n: usize, e: usize, links: &[u8], amounts: &[u8], lack: &[u64], t
     let mut ways = [0u64; ROWS];
     find_ways(n, e, &ends, &x, &mut ways);
     let mut order = [0u16; GROUPS];
-    let started = begin(n, lack, t, &mut order);
-    grow(n, &ways, t, &mut order, started);
+    let mut queue = Queue {
+        n,
+        t,
+        order: &mut order,
+        count: 0,
+    };
+    queue.begin(lack);
+    queue.grow(&ways);
 }

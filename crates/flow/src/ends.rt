@@ -1,4 +1,5 @@
 // The ends of the links, read where they were lent or in the working copy.
+// Kept: an end is a number (0 and 1, or 0 and 4), since it is an offset wherever it is used: with an enum each of these places would be a cast.
 ghost use Rattle.std.specs.Prelude.{◌≡◌, ◌+◌, ◌*◌, ◌≤◌, length};
 ghost use Rattle.flow.specs.Links.{end_of};
 ghost use Rattle.flow.specs.Copies.{end_in};

@@ -6,32 +6,17 @@ use crate::copies::{copy_ends, put_amounts};
 use crate::sizes::{ENDS, LINKS};
 use crate::waves::settle;
 
-// What a is above b, and 0 where it isn't.
-fn above(a: u64, b: u64) -> u64
-    ensures { result ≡ a - b }
-{
-    if b <= a { a - b } else { 0 }
-}
-
 // Each weight becomes its two halves, in place: with no amounts yet these are the halves of the balances.
 fn halve(n: usize, plus: &mut [u64], minus: &mut [u64])
     requires { (n ≤ length plus.old) × (n ≤ length minus.old) }
     ensures { Halved n plus.old minus.old plus.new minus.new }
 {
-    let mut g = 0;
-    while g < n {
+    for g in 0..n {
         let p = plus[g];
         let m = minus[g];
-        plus[g] = above(p, m);
-        minus[g] = above(m, p);
-        g += 1;
+        plus[g] = p.saturating_sub(m);
+        minus[g] = m.saturating_sub(p);
     }
-}
-
-fn flip(m: u8) -> u8
-    ensures { result ≡ flipped m }
-{
-    if m == 0 { 1 } else { 0 }
 }
 
 // From the set that drains to its outside.
@@ -39,14 +24,13 @@ fn flip_all(n: usize, marks: &mut [u8])
     requires { n ≤ length marks.old }
     ensures { Flipped n marks.old marks.new }
 {
-    let mut g = 0;
-    while g < n {
-        marks[g] = flip(marks[g]);
-        g += 1;
+    for mark in marks[..n].iter_mut() {
+        *mark = u8::from(*mark == 0);
     }
 }
 
 // plus and minus are the two halves of the weights at entry, and of the balances at exit.
+// Kept: n, e and links apart, here and in `drained`: a survey as lists (entries::Lists) has groups too, which no wave reads.
 pub fn heaviest(
     n: usize,
     e: usize,

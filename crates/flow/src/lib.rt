@@ -10,5 +10,6 @@ pub mod heavy;
 mod sends;
 pub mod sizes;
 mod spills;
+mod tides;
 mod waves;
 mod ways;

@@ -1,20 +1,17 @@
 // One send through a link. By a link (p, q), q pays p: so q sends by raising the amount, and p sends by giving back some of it.
-ghost use Rattle.flow.specs.Sends.{Receivable, Receives, Movable, Moves, Lower, Takes, Sendable, Sends};
+ghost use Rattle.std.specs.Prelude.{◌≡◌};
+ghost use Rattle.flow.specs.Tides.{SameTide};
+ghost use Rattle.flow.specs.Sends.{Receivable, Receives, Movable, Moves, Takes, Sendable, Sends};
 
 use crate::ends::end_in;
-
-fn lower(a: u64, b: u64) -> u64
-    ensures { Lower a b result }
-{
-    if a <= b { a } else { b }
-}
+use crate::tides::Tide;
 
 // What a group takes of x: one that began the wave, which is marked 3, at most its lack. If it were overfilled, it would give back in the next wave.
 fn takes(mark: u8, lack: u64, x: u64) -> u64
     ensures { Takes mark lack x result }
 {
     if mark == 3 {
-        return lower(x, lack);
+        return x.min(lack);
     }
     x
 }
@@ -33,49 +30,38 @@ fn receive(p: usize, d: u64, excess: &mut [u64], lack: &mut [u64])
     excess[p] = excess[p] + (d - short);
 }
 
-// Group g gives d to p, and link k has an amount for it.
-fn shift(
-    k: usize,
-    g: usize,
-    p: usize,
-    d: u64,
-    amount: u64,
-    amounts: &mut [u64],
-    excess: &mut [u64],
-    lack: &mut [u64],
-)
-    requires { Movable k g p d amounts.old excess.old lack.old }
-    ensures { Moves k g p d amount amounts.old excess.old lack.old amounts.new excess.new lack.new }
-{
-    let left = excess[g] - d;
-    excess[g] = left;
-    receive(p, d, excess, lack);
-    amounts[k] = amount;
-}
-
-// Group g sends what the other end of link k takes: of its excess, or, giving back, of no more than the amount.
-pub fn send(
-    k: usize,
-    g: usize,
-    ends: &[u8],
-    amounts: &mut [u64],
-    excess: &mut [u64],
-    lack: &mut [u64],
-    t: &[u8],
-)
-    requires { Sendable k g ends.now amounts.old excess.old lack.old t.now }
-    ensures { Sends k g ends.now amounts.old excess.old lack.old t.now amounts.new excess.new lack.new }
-{
-    let amount = amounts[k];
-    let x = excess[g];
-    let q = end_in(ends, k, 1);
-    if q == g {
-        let p = end_in(ends, k, 0);
-        let d = takes(t[p], lack[p], x);
-        shift(k, g, p, d, amount + d, amounts, excess, lack);
-        return;
+impl Tide<'_> {
+    // Group g gives d to p, and link k has an amount for it.
+    fn shift(&mut self, k: usize, g: usize, p: usize, d: u64, amount: u64)
+        requires { Movable k g p d self.old.amounts.now self.old.excess.now self.old.lack.now }
+        ensures moves { Moves k g p d amount self.old.amounts.now self.old.excess.now self.old.lack.now self.new.amounts.now self.new.excess.now self.new.lack.now }
+        ensures ways { self.new.ways.now ≡ self.old.ways.now }
+        ensures same { SameTide self.old self.new }
+    {
+        let left = self.excess[g] - d;
+        self.excess[g] = left;
+        receive(p, d, self.excess, self.lack);
+        self.amounts[k] = amount;
     }
-    let most = lower(x, amount);
-    let d = takes(t[q], lack[q], most);
-    shift(k, g, q, d, amount - d, amounts, excess, lack);
+
+    // Group g sends what the other end of link k takes: of its excess, or, giving back, of no more than the amount.
+    pub fn send(&mut self, k: usize, g: usize, ends: &[u8], t: &[u8])
+        requires { Sendable k g ends.now self.old.amounts.now self.old.excess.now self.old.lack.now t.now }
+        ensures sends { Sends k g ends.now self.old.amounts.now self.old.excess.now self.old.lack.now t.now self.new.amounts.now self.new.excess.now self.new.lack.now }
+        ensures ways { self.new.ways.now ≡ self.old.ways.now }
+        ensures same { SameTide self.old self.new }
+    {
+        let amount = self.amounts[k];
+        let x = self.excess[g];
+        let q = end_in(ends, k, 1);
+        if q == g {
+            let p = end_in(ends, k, 0);
+            let d = takes(t[p], self.lack[p], x);
+            self.shift(k, g, p, d, amount + d);
+            return;
+        }
+        let most = x.min(amount);
+        let d = takes(t[q], self.lack[q], most);
+        self.shift(k, g, q, d, amount - d);
+    }
 }

@@ -33,11 +33,9 @@ pub fn find_ways(n: usize, e: usize, ends: &[u8], amounts: &[u64], ways: &mut [u
     requires { Blank n e ends.now amounts.now ways.old }
     ensures { WaysFound n e ends.now amounts.now ways.old ways.new }
 {
-    let mut k = 0;
-    while k < e {
+    for k in 0..e {
         let p = end_in(ends, k, 0);
         let q = end_in(ends, k, 1);
         find_way(p, q, amounts[k], ways);
-        k += 1;
     }
 }

@@ -1,2 +1,3 @@
--- The sizes that a file's counts are within.
+-- The kinds of blocks by their numbers, and the sizes that a file's counts are within.
+pub mod Kinds
 pub mod Sizes

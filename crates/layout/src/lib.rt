@@ -6,60 +6,61 @@ ghost use Rattle.std.specs.Prelude.{◌≡◌, ◌-◌, ◌*◌, ◌^◌, ◌<�
 ghost use Rattle.survey.specs.Limits.{block_pairs};
 ghost use Rattle.survey.specs.SurveyFile.{n_in, e_in, blocks_for, first_link_block, blocks_needed, kind_of, pair_words, used_words};
 ghost use Rattle.views.specs.Views.{Within};
+ghost use Rattle.layout.specs.Kinds.{number_of};
 ghost use Rattle.layout.specs.Sizes.{Countable};
 
+use survey::answers::Size;
 use views::view::block_word;
 
-// The header has n and e after its number and its kind.
-pub fn n_in(file: &[u8]) -> usize
-    requires { Within file.now 0 }
-    ensures { (result ≡ n_in file.now) × (result < 2 ^ 32) }
-{
-    let n = block_word(file, 0, 2);
-    n as usize
+// Which kind a block is of, with the number that it says it by.
+#[derive(Clone, Copy)]
+pub enum Kind {
+    Header = 1,
+    Groups = 2,
+    Links = 3,
 }
 
-pub fn e_in(file: &[u8]) -> usize
+// The header has n and e after its number and its kind.
+pub fn size_in(file: &[u8]) -> Size
     requires { Within file.now 0 }
-    ensures { (result ≡ e_in file.now) × (result < 2 ^ 32) }
+    ensures groups { (result.n ≡ n_in file.now) × (result.n < 2 ^ 32) }
+    ensures links { (result.e ≡ e_in file.now) × (result.e < 2 ^ 32) }
 {
-    let e = block_word(file, 0, 3);
-    e as usize
+    Size {
+        n: block_word(file, 0, 2) as usize,
+        e: block_word(file, 0, 3) as usize,
+    }
 }
 
 // So many blocks have k pairs.
 fn blocks_for(k: usize) -> usize
-    requires { k < 2 ^ 32 }
     ensures { result ≡ blocks_for k }
 {
-    (k + 61) / 62
+    k.div_ceil(62)
 }
 
 pub fn first_link_block(n: usize) -> usize
-    requires { n < 2 ^ 32 }
     ensures { result ≡ first_link_block n }
 {
     1 + blocks_for(n)
 }
 
-pub fn blocks_needed(n: usize, e: usize) -> usize
-    requires { (n < 2 ^ 32) × (e < 2 ^ 32) }
-    ensures { result ≡ blocks_needed n e }
+pub fn blocks_needed(size: Size) -> usize
+    ensures { result ≡ blocks_needed size.n size.e }
 {
-    first_link_block(n) + blocks_for(e)
+    first_link_block(size.n) + blocks_for(size.e)
 }
 
-pub fn kind_of(n: usize, b: usize) -> u32
-    requires { n < 2 ^ 32 }
-    ensures { result ≡ kind_of n b }
+pub fn kind_of(n: usize, b: usize) -> Kind
+    ensures { number_of result ≡ kind_of n b }
 {
     if b == 0 {
-        return 1;
+        return Kind::Header;
     }
     if first_link_block(n) <= b {
-        return 3;
+        return Kind::Links;
     }
-    2
+    Kind::Groups
 }
 
 // The words in use where so many of k pairs stand in earlier blocks: none of them is left where the earlier blocks have room for all.
@@ -67,22 +68,17 @@ fn words_left(k: usize, earlier: usize) -> usize
     requires { (k < 2 ^ 32) × (earlier < 2 ^ 55) }
     ensures { result ≡ pair_words (k - block_pairs * earlier) }
 {
-    let taken = 62 * earlier;
-    if k < taken {
-        return 2;
-    }
-    2 + 2 * (k - taken)
+    2 + 2 * k.saturating_sub(62 * earlier)
 }
 
 // From this word on the words of block b are unused: its kind decides, which is the right one for its place.
-pub fn used_words(kind: u32, n: usize, e: usize, b: usize) -> usize
-    requires { Countable n e b × (kind ≡ kind_of n b) }
-    ensures { result ≡ used_words n e b }
+pub fn used_words(kind: Kind, size: Size, b: usize) -> usize
+    requires { Countable size.n size.e b × (number_of kind ≡ kind_of size.n b) }
+    ensures { result ≡ used_words size.n size.e b }
 {
     match kind {
-        1 => 4,
-        2 => words_left(n, b - 1),
-        3 => words_left(e, b - first_link_block(n)),
-        _ => 126, // no block is of another kind
+        Kind::Header => 4,
+        Kind::Groups => words_left(size.n, b - 1),
+        Kind::Links => words_left(size.e, b - first_link_block(size.n)),
     }
 }

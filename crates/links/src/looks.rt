@@ -2,65 +2,41 @@
 ghost use Rattle.std.specs.Prelude.{◌<◌};
 ghost use Rattle.survey.specs.Faults.{bad_end, bad_order};
 ghost use Rattle.refusals.specs.Searches.{Finds, Tells};
-ghost use Rattle.cycles.specs.Lists.{LinksFit, links_in};
+ghost use Rattle.cycles.specs.Lists.{links_in};
 
-use cycles::lists::{LinkList, link_of};
-use refusals::found::Found;
+use cycles::lists::LinkList;
 
-fn end_outside(b: &[u8], list: LinkList, k: usize) -> bool
-    requires { LinksFit b.now list × (k < list.e) }
-    ensures { Tells ((bad_end (links_in b.now list)).at k) result }
+fn end_outside(list: LinkList, k: usize) -> bool
+    requires { k < list.e }
+    ensures { Tells ((bad_end (links_in list.entry)).at k) result }
 {
-    let link = link_of(b, list, k);
-    if list.n <= link.from {
-        return true;
-    }
-    list.n <= link.to
+    let link = list.link(k);
+    list.n <= link.from || list.n <= link.to
 }
 
 // 9: the lowest link at fault.
-pub fn first_outside(b: &[u8], list: LinkList) -> Found
-    requires { LinksFit b.now list }
-    ensures { Finds (bad_end (links_in b.now list)) result }
+pub fn first_outside(list: LinkList) -> Option<usize>
+    ensures { Finds (bad_end (links_in list.entry)) result }
 {
-    let mut k = 0;
-    while k < list.e {
-        if end_outside(b, list, k) {
-            return Found::At(k);
-        }
-        k += 1;
-    }
-    Found::Missing
+    (0..list.e).find(|k| end_outside(list, *k))
 }
 
 // The first link has none before it.
-fn not_above(b: &[u8], list: LinkList, k: usize) -> bool
-    requires { LinksFit b.now list × (k < list.e) }
-    ensures { Tells ((bad_order (links_in b.now list)).at k) result }
+fn not_above(list: LinkList, k: usize) -> bool
+    requires { k < list.e }
+    ensures { Tells ((bad_order (links_in list.entry)).at k) result }
 {
     if k == 0 {
         return false;
     }
-    let last = link_of(b, list, k - 1);
-    let link = link_of(b, list, k);
-    if last.from == link.from {
-        link.to <= last.to
-    } else {
-        link.from < last.from
-    }
+    let last = list.link(k - 1);
+    let link = list.link(k);
+    (link.from, link.to) <= (last.from, last.to)
 }
 
 // 10: the lowest link at fault, which is the later of the two.
-pub fn first_not_above(b: &[u8], list: LinkList) -> Found
-    requires { LinksFit b.now list }
-    ensures { Finds (bad_order (links_in b.now list)) result }
+pub fn first_not_above(list: LinkList) -> Option<usize>
+    ensures { Finds (bad_order (links_in list.entry)) result }
 {
-    let mut k = 0;
-    while k < list.e {
-        if not_above(b, list, k) {
-            return Found::At(k);
-        }
-        k += 1;
-    }
-    Found::Missing
+    (0..list.e).find(|k| not_above(list, *k))
 }

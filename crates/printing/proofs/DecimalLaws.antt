@@ -1,5 +1,5 @@
 -- Numbers in decimal: how they are put together, and how long they are.
-use Prim.Native.Nat.{ℕ, zero, suc, ◌+◌, ◌/◌, ◌%◌, ◌^◌, ◌≤◌, ◌<◌}
+use Prim.Native.Nat.{ℕ, zero, suc, ◌/◌, ◌%◌, ◌^◌, ◌≤◌, ◌<◌}
 use native.Mathlib.Nat.{pow-suc}
 use native.Mathlib.Omega.{arith}
 use mathlib.Core.Path.{◌≡◌, refl, sym, ap, ◌∙◌}
@@ -8,7 +8,7 @@ use mathlib.Core.List.{List, [], ◌∷◌, ◌++◌}
 use lib.ListN.{length, length-append}
 use lib.Dec.{ltb}
 use borrow.Author.Tests.{lt-ltb, ltb-true, ltb-false}
-use Rattle.printing.specs.Texts.{digit, tenths, decimal, named}
+use Rattle.printing.specs.Texts.{digit, tenths, decimal}
 
 tenths_small : (k x : ℕ) → x < 10 → tenths k x ≡ digit x ∷ []
 unfolding tenths
@@ -76,6 +76,3 @@ decimal_of_three x h = decimal_width 2 x (omega arith)
 -- before the last digit there are at most 19
 pub decimal_room : (x : ℕ) → 10 ≤ x → x < 2 ^ 64 → length (decimal (x / 10)) < 20
 decimal_room x h b = omega (arith, ap length (decimal_more x h), length-append (decimal (x / 10)) (digit (x % 10) ∷ []), decimal_short x b)
-
-pub named_short : (word : List ℕ) (x : ℕ) → x < 2 ^ 64 → length (named word x) ≤ length word + 20
-named_short word x b = omega (arith, length-append word (decimal x), decimal_short x b)

@@ -1,15 +1,18 @@
--- Texts put one after the other, and a text put byte by byte.
-use Prim.Native.Nat.{ℕ, suc, ◌+◌, ◌/◌, ◌%◌, ◌≤◌, ◌<◌}
+-- Texts put one after the other on a page: bytes, and the place after what is put.
+use Prim.Native.Nat.{ℕ, suc, ◌+◌, ◌-◌, ◌/◌, ◌%◌, ◌≤◌, ◌<◌}
 use native.Mathlib.Nat.{add-zero, zero-add, add-suc, suc-add}
-use native.Mathlib.Numerals.{add-one}
 use native.Mathlib.Omega.{arith}
 use mathlib.Core.Path.{◌≡◌, refl, sym, ap, ◌∙◌}
 use mathlib.Core.List.{List, [], ◌∷◌, ◌++◌}
-use lib.ListN.{length, take, drop, get_or, set, length-append}
-use lib.Seq.{sets, length-sets, sets-eq, take-suc, length-take-le}
-use Rattle.printing.specs.Texts.{digit, decimal}
+use lib.ListN.{length, take, drop, set, length-append}
+use lib.Seq.{sets, length-sets, sets-eq}
+use Rattle.printing.specs.Texts.{decimal}
 use Rattle.printing.proofs.DecimalLaws.{decimal_small, decimal_more}
-use Rattle.printing.specs.Put.{written, Put}
+use Rattle.std.proofs.Common.{append_assoc}
+use Rattle.std.proofs.lemmas.List.{drop-drop}
+use borrow.Rule.Slice.PartMut.{put_mid}
+use Rattle.printing.specs.declared.text.Page.{Page}
+use Rattle.printing.specs.Pages.{written, HasRoom, Puts}
 
 sets_then : (x y l : List ℕ) (i : ℕ) → sets (sets l i x) (i + length x) y ≡ sets l i (x ++ y)
 sets_then [] y l i = rw add-zero
@@ -33,50 +36,39 @@ module _ (before : List ℕ) (at : ℕ) where
   unfolding written
   written_byte v = refl
 
-  pub written_next : (x : List ℕ) (v : ℕ) → set (written before at x) (at + length x) v ≡ written before at (x ++ v ∷ [])
-  unfolding written
-  written_next x v = sets_then x (v ∷ []) before at
-
 -- from the first place on
 pub written_first : (before text : List ℕ) → length text ≤ length before → written before 0 text ≡ text ++ drop (length text) before
 unfolding written
 written_first before text h = sets-eq text before 0 (omega arith) ∙ rw (zero-add (length text))
 
+-- a part that was put in at `at`, as std writes it
+pub written_part : (before : List ℕ) (at : ℕ) (text : List ℕ) → at + length text ≤ length before → put_mid at (at + length text - at) before text ≡ written before at text
+unfolding written
+written_part before at text h =
+    let same : at + length text - at ≡ length text = omega arith in
+    rw (same, drop-drop (length text) at before, ← append_assoc (take at before) text (drop (at + length text) before)) (sym (sets-eq text before at h))
+
 -- ---- what the parts promise
 
-pub put_long : {before text after : List ℕ} {at r : ℕ} → Put before at text r after → length after ≡ length before
-put_long {before} {text} {after} {at} p = ap length p.is ∙ written_long before at text
+-- the bytes as they are left, and the place after the text
+pub puts_written :
+    {before after : Page} {text : List ℕ} → after.out.ghost_name ≡ before.out.ghost_name → HasRoom (length text) before → after.at ≡ before.at + length text
+    → after.out.now ≡ written before.out.now before.at text → Puts before text after
+puts_written {before} {after} {text} same room end is =
+    record { same = same; long = ap length is ∙ written_long before.out.now before.at text; room = room; end = end; is = is }
 
-pub put_none : (before : List ℕ) (at : ℕ) → at ≤ length before → Put before at [] at before
-put_none before at h = record { room = omega arith; end = sym (add-zero at); is = written_none before at }
+pub puts_none : (before : Page) → before.at ≤ length before.out.now → Puts before [] before
+puts_none before h = puts_written refl (omega arith) (sym (add-zero before.at)) (written_none before.out.now before.at)
 
-pub put_then : {before x y mid after : List ℕ} {at r r' : ℕ} → Put before at x r mid → Put mid r y r' after → Put before at (x ++ y) r' after
-put_then {before} {x} {y} {mid} {after} {at} {r} {r'} p q =
-    record {
-      room = omega (arith, q.room, p.end, put_long p, length-append x y);
-      end = omega (arith, p.end, q.end, length-append x y);
-      is = q.is ∙ rw (p.is, p.end) (written_then before at x y);
-    }
-
--- the bytes of a text so far, and one more
-pub put_more : (before text after : List ℕ) (at i : ℕ) → i < length text → after ≡ written before at (take i text) → set after (at + i) (get_or text i 0) ≡ written before at
-    (take (i + 1) text)
-put_more before text after at i h e =
-    rw (e, add-one i, take-suc text i 0 h)
-    (ap (λ (j : ℕ). set (written before at (take i text)) (at + j) (get_or text i 0)) (sym (length-take-le i text (omega arith))) ∙ written_next before at (take i text)
-    (get_or text i 0))
+pub puts_then : {before mid after : Page} {x y : List ℕ} → Puts before x mid → Puts mid y after → Puts before (x ++ y) after
+puts_then {before} {mid} {after} {x} {y} p q =
+    puts_written (q.same ∙ p.same) (omega (arith, q.room, p.end, p.long, length-append x y)) (omega (arith, p.end, q.end, length-append x y))
+    (q.is ∙ rw (p.is, p.end) (written_then before.out.now before.at x y))
 
 -- ---- a number in decimal: its digit, or its tenth and then its last digit
 
-pub put_digit : (before : List ℕ) (at x : ℕ) → at < length before → x < 10 → Put before at (decimal x) (at + 1) (set before at (48 + x))
-put_digit before at x b h = rw (decimal_small x h) (record { room = omega arith; end = refl; is = written_byte before at (digit x) })
+pub puts_digit : {before after : Page} (x : ℕ) → x < 10 → Puts before ((48 + x) ∷ []) after → Puts before (decimal x) after
+puts_digit x h p = rw (decimal_small x h) p
 
-pub put_last : {before after : List ℕ} {at r : ℕ} (x : ℕ) → 10 ≤ x → r < length before → Put before at (decimal (x / 10)) r after → Put before at (decimal x) (r + 1)
-    (set after r (48 + x % 10))
-put_last {before} {after} {at} {r} x h b p =
-    rw (decimal_more x h)
-    (record {
-      room = omega (arith, p.end, length-append (decimal (x / 10)) (digit (x % 10) ∷ []));
-      end = omega (arith, p.end, length-append (decimal (x / 10)) (digit (x % 10) ∷ []));
-      is = rw (p.is, p.end) (written_next before at (decimal (x / 10)) (digit (x % 10)));
-    })
+pub puts_last : {before mid after : Page} (x : ℕ) → 10 ≤ x → Puts before (decimal (x / 10)) mid → Puts mid ((48 + x % 10) ∷ []) after → Puts before (decimal x) after
+puts_last x h p q = rw (decimal_more x h) (puts_then p q)

@@ -4,7 +4,7 @@
 
 ghost use Rattle.survey.specs.Refusals.{Answers};
 ghost use Rattle.survey.specs.Faults.{file_faults};
-ghost use Rattle.survey.specs.Answers.{admission_verdict};
+ghost use Rattle.survey.specs.Answers.{verdict_of};
 ghost use Rattle.survey.specs.Promises.{ReaderSays};
 ghost use Rattle.refusals.specs.Searches.{Tells};
 ghost use Rattle.reader.specs.Lent.{ListsShort};
@@ -12,63 +12,51 @@ ghost use Rattle.reader.specs.Lent.{ListsShort};
 use admit::admit;
 use blocks::block_faults;
 use copies::fill;
-use entries::whole_entries;
-use layout::{e_in, first_link_block, n_in};
+use entries::{Entries, whole_entries};
+use layout::{first_link_block, size_in};
 use refusals::refused_whole;
-use survey::answers::{Admission, Reading};
+use survey::answers::{Refusal, Size};
 use survey::stands::Stand;
 
 // The groups stand in the blocks from this one on, after the header.
 const GROUP_BLOCK: usize = 1;
 
 // 1: a list has room for fewer than 128 groups or 1,024 links (Specification 11).
+// Kept: calls has the test of four lists, and this is of two: shared, either would be handed lists that it has not.
+#[tactic(auto, unfolding(survey::specs::Faults::OneShort))]
 fn lists_short(groups: &[u8], links: &[u8]) -> bool
     ensures { Tells (ListsShort groups.now links.now) result }
 {
-    if whole_entries(groups) < 128 {
-        return true;
-    }
-    if whole_entries(links) < 1_024 {
-        return true;
-    }
-    false
+    whole_entries(groups) < 128 || whole_entries(links) < 1_024
 }
 
 // 2 to 12: the file's blocks, and then the survey in them, where it stands.
-fn faults_in(file: &[u8]) -> Admission
-    ensures { Answers (file_faults file.now) (admission_verdict result) }
+fn faults_in(file: &[u8]) -> Result<(), Refusal>
+    ensures { Answers (file_faults file.now) (verdict_of result) }
 {
-    let of_blocks = block_faults(file);
-    if let Admission::Refused(r) = of_blocks {
-        return Admission::Refused(r);
-    }
-    let n = n_in(file);
-    let e = e_in(file);
-    let link_block = first_link_block(n);
-    admit(
-        n,
-        e,
-        file,
-        Stand::Blocks(GROUP_BLOCK),
-        file,
-        Stand::Blocks(link_block),
-    )
+    block_faults(file)?;
+    let size = size_in(file);
+    let groups = Entries {
+        bytes: file,
+        stand: Stand::Blocks(GROUP_BLOCK),
+    };
+    let links = Entries {
+        bytes: file,
+        stand: Stand::Blocks(first_link_block(size.n)),
+    };
+    admit(size.n, size.e, groups, links)
 }
 
-pub fn read(file: &[u8], groups: &mut [u8], links: &mut [u8]) -> Reading
+pub fn read(file: &[u8], groups: &mut [u8], links: &mut [u8]) -> Result<Size, Refusal>
     ensures { ReaderSays file.now groups.old links.old result groups.new links.new }
 {
     if lists_short(groups, links) {
-        return Reading::Refused(refused_whole(1));
+        return Err(refused_whole(1));
     }
-    let faults = faults_in(file);
-    if let Admission::Refused(r) = faults {
-        return Reading::Refused(r);
-    }
-    let n = n_in(file);
-    let e = e_in(file);
-    let link_block = first_link_block(n);
-    fill(groups, n, file, GROUP_BLOCK);
-    fill(links, e, file, link_block);
-    Reading::Survey { n, e }
+    faults_in(file)?;
+    let size = size_in(file);
+    let link_block = first_link_block(size.n);
+    fill(groups, size.n, file, GROUP_BLOCK);
+    fill(links, size.e, file, link_block);
+    Ok(size)
 }

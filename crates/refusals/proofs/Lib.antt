@@ -1,4 +1,4 @@
--- The laws of refusals, searches and tests.
-pub mod RefusalLaws
+-- The laws of searches and tests, and what ranges say.
 pub mod SearchLaws
 pub mod Looking
+pub mod Ranges

@@ -1,26 +1,26 @@
--- How a search looks at one place after the other, and how a chain of looks puts its answer together: at each row it stops, with that row's
--- refusal, or goes past it. Whatever looks for faults cites these, a line a need.
-use Prim.Native.Nat.{ℕ, ◌+◌, ◌≤◌, ◌<◌}
-use mathlib.Core.Path.{◌≡◌, refl, ap, subst}
+-- What a test or a search tells, and how a chain of looks puts its answer together: at each row it stops, with that row's refusal, or goes past it.
+-- Whatever looks for faults cites these, a line a need.
+use Prim.Native.Nat.{ℕ, ◌≤◌, ◌<◌}
+use mathlib.Core.Path.{◌≡◌, ap, subst}
 use mathlib.Core.Bool.{Bool, true, false}
-use mathlib.Core.List.{List, ◌∷◌, ◌++◌}
+use mathlib.Core.List.{List, ◌∷◌}
 use native.Mathlib.Omega.{arith}
-use borrow.Author.Count.{below_more}
+use Rattle.std.specs.Prelude.{Option, None, Some, MatchOption, Result}
+use Rattle.std.specs.Result.{IsErrAnd}
+use Rattle.std.proofs.lemmas.Result.{err_from_is_err_and}
 use Rattle.survey.specs.declared.answers.Refusal.{Refusal}
-use Rattle.survey.specs.declared.answers.Admission.{Admission}
-use Rattle.survey.specs.Refusals.{refused, Fault, whole, among, Clear, Lowest, refusal, Answers, AllClear}
-use Rattle.survey.specs.Answers.{admission_verdict}
-use Rattle.survey.proofs.Verdicts.{given, fine_clear, early}
-use Rattle.refusals.specs.declared.found.Found.{Found}
-use Rattle.refusals.specs.declared.found.Found.TheVariants.{At, Missing}
+use Rattle.survey.specs.Refusals.{refused, Fault, whole, among, Clear, Lowest, refusal, Answers}
+use Rattle.survey.specs.Answers.{verdict_of}
+use Rattle.survey.proofs.Verdicts.{given}
 use Rattle.refusals.specs.Refused.{refusal_whole}
 use Rattle.refusals.specs.Searches.{Finds, Tells}
 
 -- ---- tests
 
-pub tells_by : {P : Type 0} (t : Bool) → (t ≡ true → P) → (t ≡ false → P → ⊥) → Tells P t
-tells_by true y z = y refl
-tells_by false y z = z refl
+-- a test of the same in other words
+pub tells_as : {P Q : Type 0} (r : Bool) → (P → Q) → (Q → P) → Tells P r → Tells Q r
+tells_as true to back t = to t
+tells_as false to back t = λ q. t (back q)
 
 -- what a test told
 module _ {P : Type 0} (r : Bool) where
@@ -31,31 +31,6 @@ module _ {P : Type 0} (r : Bool) where
   told_not e t = rw e at t
 
 -- ---- searches
-
--- No place below k is at fault.
-pub record Before (f : Fault) (k : ℕ) : Type 0 where
-  pub none : (j : ℕ) → j < k → f.at j → ⊥
-
-module _ {f : Fault} where
-  pub before_first : Before f 0
-  before_first = record { none = λ j l h. omega arith }
-
-  pub before_next : {k : ℕ} → Before f k → (f.at k → ⊥) → Before f (k + 1)
-  before_next {k} b clear = record { none = below_more (λ j. f.at j → ⊥) k b.none clear }
-
-  pub found_here : {k : ℕ} → k < f.places → Before f k → f.at k → Lowest f k
-  found_here l b h = record { below = l; fault = h; first = b.none }
-
-  pub found_none : {k : ℕ} → f.places ≤ k → Before f k → Clear f
-  found_none l b = record { none = λ j h. b.none j (omega arith) }
-
--- what a search found
-module _ {f : Fault} (r : Found) where
-  pub found_at : {k : ℕ} → r ≡ At k → Finds f r → Lowest f k
-  found_at e t = rw e at t
-
-  pub found_missing : r ≡ Missing → Finds f r → Clear f
-  found_missing e t = rw e at t
 
 -- Where there is but one place, a test does for a search.
 module _ (number : ℕ) (P : ℕ → Type 0) where
@@ -83,10 +58,13 @@ whole_lowest p = record { below = omega arith; fault = p; first = λ j l. absurd
 pub stop_whole : {m : ℕ} {P : Type 0} {fs : List Fault} {r : Refusal} → P → r ≡ refusal_whole m → Answers (whole m P ∷ fs) (refused r)
 stop_whole p e = stop_at (whole_lowest p) e
 
--- a part's answer, and the next part's
-module _ (fs gs : List Fault) (r : Admission) where
-  pub stops : {x : Refusal} → r ≡ Admission.Refused x → Answers fs (admission_verdict r) → Answers (fs ++ gs) (refused x)
-  stops e a = early fs gs (rw e at a)
+-- What a range's `find` says of the numbers of the range, said of a fault's places.
+pub first_finds : (f : Fault) {n : ℕ} (r : Option ℕ) → n ≡ f.places
+    → MatchOption r ((k : ℕ) → 0 ≤ k → k < n → f.at k → ⊥) (λ k. (0 ≤ k) × (k < n) × f.at k × ((j : ℕ) → 0 ≤ j → j < k → f.at j → ⊥))
+    → Finds f r
+first_finds f (Some k) e h = record { below = omega (arith, h.1, e); fault = h.2; first = λ j l. h.3 j (omega arith) l }
+first_finds f None e h = record { none = λ k l. h k (omega arith) (omega arith) }
 
-  pub goes_on : r ≡ Admission.Admitted → Answers fs (admission_verdict r) → AllClear fs
-  goes_on e a = fine_clear fs (rw e at a)
+-- What a `?` passes on is refused as it was.
+pub passed_on : {A : Type 0} {fs : List Fault} {x : Refusal} (r : Result A Refusal) → IsErrAnd r (λ y. y ≡ x) → Answers fs (refused x) → Answers fs (verdict_of r)
+passed_on r is a = let p = err_from_is_err_and r is in rw (p.1, p.2) a

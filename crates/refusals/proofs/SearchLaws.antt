@@ -4,15 +4,14 @@ use mathlib.Core.Bool.{Bool, true, false}
 use Prim.Native.Nat.{ℕ}
 use Rattle.survey.specs.Refusals.{Fault}
 use Rattle.survey.proofs.Verdicts.{lowest_one}
-use Rattle.refusals.specs.declared.found.Found.{Found}
-use Rattle.refusals.specs.declared.found.Found.TheVariants.{At, Missing}
+use Rattle.std.specs.Prelude.{Option, None, Some}
 use Rattle.refusals.specs.Searches.{Finds, Tells}
 
-pub finds_one : (f : Fault) (r r' : Found) → Finds f r → Finds f r' → r ≡ r'
-finds_one f (At j) (At k) a b = ap (λ (x : ℕ). At x) (lowest_one a b)
-finds_one f (At j) Missing a b = absurd (b.none j a.below a.fault)
-finds_one f Missing (At k) a b = absurd (a.none k b.below b.fault)
-finds_one f Missing Missing a b = refl
+pub finds_one : (f : Fault) (r r' : Option ℕ) → Finds f r → Finds f r' → r ≡ r'
+finds_one f (Some j) (Some k) a b = ap (λ (x : ℕ). Some x) (lowest_one a b)
+finds_one f (Some j) None a b = absurd (b.none j a.below a.fault)
+finds_one f None (Some k) a b = absurd (a.none k b.below b.fault)
+finds_one f None None a b = refl
 
 pub tells_one : (P : Type 0) (r r' : Bool) → Tells P r → Tells P r' → r ≡ r'
 tells_one P true true p q = refl

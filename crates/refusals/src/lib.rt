@@ -1,8 +1,6 @@
 // Refusals: the struct with its place, made for each number of the table, and what a search for a fault finds.
 #![tactic(auto)]
 
-pub mod found;
-
 ghost use Rattle.std.specs.Prelude.{◌≡◌};
 ghost use Rattle.survey.specs.Refusals.{place_of};
 ghost use Rattle.survey.specs.Answers.{place_number};
@@ -11,6 +9,7 @@ ghost use Rattle.refusals.specs.Refused.{refusal_at, refusal_whole};
 use survey::answers::{Place, Refusal};
 
 // The table's last column: the sort of place that a fault of this number has, at the block, group or link k.
+// Kept: a refusal's number is a number: docs/FORMS.md asks for a match over ranges of them, and this function and the two below answer for every number.
 pub fn place_of(number: u64, k: usize) -> Place
     ensures { result ≡ place_of number k }
 {
@@ -41,6 +40,7 @@ pub fn refused_whole(number: u64) -> Refusal
 }
 
 // Specification 10.4: a place as a number, 0 where it is nothing.
+// Kept: a function with a name, and no `From`: a place has two numbers (boundary::sort_number is the other), and `from` would name neither.
 pub fn place_number(p: Place) -> usize
     ensures { result ≡ place_number p }
 {

@@ -10,8 +10,7 @@ use mathlib.Core.List.{List}
 use lib.ListN.{length, get_or}
 use lib.Seq.{ext_get_or}
 use lib.Dec.{eqb}
-use Rattle.survey.specs.declared.answers.Choice.{Choice}
-use Rattle.survey.specs.declared.answers.Judgement.{Judgement}
+use Rattle.std.specs.Prelude.{Result, Ok, Err}
 use Rattle.survey.specs.declared.answers.Refusal.{Refusal}
 use Rattle.survey.specs.Limits.{entry_bytes, amount_limit}
 use Rattle.survey.specs.Survey.{Survey}
@@ -19,12 +18,12 @@ use Rattle.survey.specs.Sets.{Same}
 use Rattle.survey.specs.Words.{survey_at, survey_of, marked_set, amounts_of}
 use Rattle.survey.specs.Refusals.{Verdict, fine, refused, AllClear, Answers}
 use Rattle.survey.specs.Faults.{list_faults, claim_faults, chooser_faults, checker_faults}
-use Rattle.survey.specs.Answers.{choice_verdict}
+use Rattle.survey.specs.Answers.{verdict_of}
 use Rattle.survey.specs.Promises.{Marked, AmountsPut, ChosenLists, ChooserSays, CheckerSays}
 use Rattle.survey.proofs.SameSets.{same_refl}
 use Rattle.survey.proofs.Unique.{pick_one, rounds_one}
 use Rattle.survey.proofs.Verdicts.{answers_one, fine_clear, clear_fine, afterwards, past}
-use Rattle.survey.proofs.AnswersOne.{judgement_one}
+use Rattle.survey.proofs.AnswersOne.{answer_one}
 use Rattle.survey.proofs.Claims.{ClaimClear, accepted_clear}
 
 -- marks that are 0 or 1 and mark the same groups are the same marks
@@ -55,19 +54,19 @@ amounts_one {before} {a} {a'} {e} x y h =
 
 -- The same answer and the same marks; and of the amounts all that the promise settles: they are the same past entry e, the same everywhere after a
 -- refusal, and the same everywhere once the first e entries are.
-pub record SameChoice (e : ℕ) (r r' : Choice) (m m' a a' : List ℕ) : Type 0 where
+pub record SameChoice (e : ℕ) (r r' : Result ℕ Refusal) (m m' a a' : List ℕ) : Type 0 where
   pub answer : r ≡ r'
   pub marks : m ≡ m'
   pub long : length a ≡ length a'
   pub rest : (i : ℕ) → entry_bytes * e ≤ i → get_or a i 0 ≡ get_or a' i 0
-  pub after_refusal : (x : Refusal) → r ≡ Choice.Refused x → a ≡ a'
+  pub after_refusal : (x : Refusal) → r ≡ Err x → a ≡ a'
   pub once_equal : ((i : ℕ) → i < entry_bytes * e → get_or a i 0 ≡ get_or a' i 0) → a ≡ a'
 
 apart : {x : Refusal} {v : Verdict} → v ≡ refused x → v ≡ fine → ⊥
 apart p q = let z : ◌≡◌ {A = ℕ} 0 1 = cc in omega arith
 
 pub chooser_one :
-    {n e : ℕ} {groups links marks amounts : List ℕ} {r r' : Choice} {m m' a a' : List ℕ} → ChooserSays n e groups links marks amounts r m a
+    {n e : ℕ} {groups links marks amounts : List ℕ} {r r' : Result ℕ Refusal} {m m' a a' : List ℕ} → ChooserSays n e groups links marks amounts r m a
     → ChooserSays n e groups links marks amounts r' m' a' → SameChoice e r r' m m' a a'
 unfolding survey_at
 chooser_one {n} {e} {groups} {links} {marks} {amounts} {r} {r'} {m} {m'} {a} {a'} x y =
@@ -76,9 +75,9 @@ chooser_one {n} {e} {groups} {links} {marks} {amounts} {r} {r'} {m} {m'} {a} {a'
     s : Survey
     s = survey_of n e groups links
 
-    at : (r r' : Choice) → choice_verdict r ≡ choice_verdict r' → ChosenLists s marks amounts r m a → ChosenLists s marks amounts r' m' a'
+    at : (r r' : Result ℕ Refusal) → verdict_of r ≡ verdict_of r' → ChosenLists s marks amounts r m a → ChosenLists s marks amounts r' m' a'
         → SameChoice e r r' m m' a a'
-    at (Choice.Refused u) (Choice.Refused v) q p o =
+    at (Err u) (Err v) q p o =
         let same : a ≡ a' = p.1 ∙ sym o.1 in
         record {
           answer = cc;
@@ -88,11 +87,11 @@ chooser_one {n} {e} {groups} {links} {marks} {amounts} {r} {r'} {m} {m'} {a} {a'
           after_refusal = λ x z. same;
           once_equal = λ h. same;
         }
-    at (Choice.Refused u) (Choice.Chosen k) q p o = absurd (apart refl q)
-    at (Choice.Chosen k) (Choice.Refused v) q p o = absurd (apart q refl)
-    at (Choice.Chosen k) (Choice.Chosen j) q p o =
+    at (Err u) (Ok k) q p o = absurd (apart refl q)
+    at (Ok k) (Err v) q p o = absurd (apart q refl)
+    at (Ok k) (Ok j) q p o =
         record {
-          answer = ap (λ (i : ℕ). Choice.Chosen i) (rounds_one p.counted o.counted same_refl).0;
+          answer = ap (λ (i : ℕ). Ok i) (rounds_one p.counted o.counted same_refl).0;
           marks = marked_one p.marked o.marked (pick_one p.pick o.pick);
           long = p.put.long ∙ sym o.put.long;
           rest = λ i l. p.put.rest i l ∙ sym (o.put.rest i l);
@@ -101,12 +100,12 @@ chooser_one {n} {e} {groups} {links} {marks} {amounts} {r} {r'} {m} {m'} {a} {a'
         }
 
 -- two judgements that the checker's promise allows are equal
-pub checker_one : {n e : ℕ} {groups links marks amounts : List ℕ} {r r' : Judgement} → CheckerSays n e groups links marks amounts r
+pub checker_one : {n e : ℕ} {groups links marks amounts : List ℕ} {r r' : Result (Unit {0}) Refusal} → CheckerSays n e groups links marks amounts r
     → CheckerSays n e groups links marks amounts r' → r ≡ r'
-checker_one {n} {e} {groups} {links} {marks} {amounts} {r} {r'} x y = judgement_one (checker_faults n e groups links marks amounts) r r' x.verdict y.verdict
+checker_one {n} {e} {groups} {links} {marks} {amounts} {r} {r'} x y = answer_one (checker_faults n e groups links marks amounts) r r' x.verdict y.verdict
 
 -- The chooser's own claim passes every row of the checker, for every survey that it picks from.
-pub own_accepted : {n e : ℕ} {groups links marks amounts : List ℕ} {rounds : ℕ} {m a : List ℕ} → ChooserSays n e groups links marks amounts (Choice.Chosen rounds) m a → Answers
+pub own_accepted : {n e : ℕ} {groups links marks amounts : List ℕ} {rounds : ℕ} {m a : List ℕ} → ChooserSays n e groups links marks amounts (Ok rounds) m a → Answers
     (checker_faults n e groups links m a) fine
 unfolding AllClear
 own_accepted {n} {e} {groups} {links} {marks} {amounts} {rounds} {m} {a} x =

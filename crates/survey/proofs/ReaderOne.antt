@@ -6,13 +6,14 @@ use mathlib.Core.Path.{◌≡◌, refl, sym, ap₂, ◌∙◌}
 use mathlib.Core.List.{List}
 use lib.ListN.{get_or}
 use lib.Seq.{ext_get_or}
-use Rattle.survey.specs.declared.answers.Reading.{Reading}
+use Rattle.std.specs.Prelude.{Result, Ok, Err}
+use Rattle.survey.specs.declared.answers.Size.{Size}
 use Rattle.survey.specs.declared.answers.Refusal.{Refusal}
 use Rattle.survey.specs.declared.stands.Stand.{Stand}
 use Rattle.survey.specs.Limits.{entry_bytes}
 use Rattle.survey.specs.Refusals.{Verdict, fine, refused}
 use Rattle.survey.specs.Faults.{reader_faults}
-use Rattle.survey.specs.Answers.{reading_verdict}
+use Rattle.survey.specs.Answers.{verdict_of}
 use Rattle.survey.specs.Promises.{Filled, ReadLists, ReaderSays}
 use Rattle.survey.proofs.Verdicts.{answers_one}
 
@@ -24,21 +25,23 @@ filled_one {before} {after} {after'} {k} {f} {w} a b =
     at i (yes l) = a.first i l ∙ sym (b.first i l)
     at i (no d) = a.rest i (omega arith) ∙ sym (b.rest i (omega arith))
 
-pub record SameReading (r r' : Reading) (g g' l l' : List ℕ) : Type 0 where
+pub record SameReading (r r' : Result Size Refusal) (g g' l l' : List ℕ) : Type 0 where
   pub answer : r ≡ r'
   pub groups : g ≡ g'
   pub links : l ≡ l'
 
-pub reader_one : {f groups links : List ℕ} {r r' : Reading} {g g' l l' : List ℕ} → ReaderSays f groups links r g l → ReaderSays f groups links r' g' l' → SameReading r r' g g' l l'
+pub reader_one :
+    {f groups links : List ℕ} {r r' : Result Size Refusal} {g g' l l' : List ℕ} → ReaderSays f groups links r g l
+    → ReaderSays f groups links r' g' l' → SameReading r r' g g' l l'
 reader_one {f} {groups} {links} {r} {r'} {g} {g'} {l} {l'} a b =
     at r r' (answers_one (reader_faults f groups links) a.verdict b.verdict) a.lists b.lists
   where
     apart : {x : Refusal} {v : Verdict} → v ≡ refused x → v ≡ fine → ⊥
     apart p q = let z : ◌≡◌ {A = ℕ} 0 1 = cc in omega arith
 
-    at : (r r' : Reading) → reading_verdict r ≡ reading_verdict r' → ReadLists f groups links r g l → ReadLists f groups links r' g' l' → SameReading r r' g g' l l'
-    at (Reading.Refused x) (Reading.Refused y) e p q = record { answer = cc; groups = p.0 ∙ sym q.0; links = p.1 ∙ sym q.1 }
-    at (Reading.Refused x) (Reading.Survey n k) e p q = absurd (apart refl e)
-    at (Reading.Survey n k) (Reading.Refused y) e p q = absurd (apart e refl)
-    at (Reading.Survey n k) (Reading.Survey m j) e p q =
-        record { answer = ap₂ (λ (x : ℕ) (y : ℕ). Reading.Survey x y) (p.0 ∙ sym q.0) (p.1 ∙ sym q.1); groups = filled_one p.2 q.2; links = filled_one p.3 q.3 }
+    at : (r r' : Result Size Refusal) → verdict_of r ≡ verdict_of r' → ReadLists f groups links r g l → ReadLists f groups links r' g' l' → SameReading r r' g g' l l'
+    at (Err x) (Err y) e p q = record { answer = cc; groups = p.0 ∙ sym q.0; links = p.1 ∙ sym q.1 }
+    at (Err x) (Ok y) e p q = absurd (apart refl e)
+    at (Ok x) (Err y) e p q = absurd (apart e refl)
+    at (Ok x) (Ok y) e p q =
+        record { answer = ap₂ (λ (n k : ℕ). Ok (record { n = n; e = k })) (p.0 ∙ sym q.0) (p.1 ∙ sym q.1); groups = filled_one p.2 q.2; links = filled_one p.3 q.3 }

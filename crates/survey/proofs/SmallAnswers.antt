@@ -13,7 +13,8 @@ use Rattle.survey.proofs.Verdicts.{early}
 use Rattle.survey.proofs.GivenSurvey.{given_n, given_e}
 use Rattle.survey.specs.SurveyFile.{n_in, e_in, file_limit, block_count, survey_in}
 use Rattle.survey.specs.Refusals.{refused, Fault, whole, Clear, Answers}
-use Rattle.survey.specs.Faults.{OneShort, bad_length, bad_check, bad_header, bad_range, bad_block_count, bad_kind, bad_unused, survey_faults, list_faults, file_faults, claim_faults, reader_faults, call_lists, chooser_faults, checker_faults}
+use Rattle.survey.specs.Faults.{OneShort, bad_length, bad_check, bad_header, bad_range, bad_block_count, bad_kind, bad_unused, survey_faults}
+use Rattle.survey.specs.Faults.{list_faults, file_faults, claim_faults, reader_faults, call_lists, chooser_faults, checker_faults}
 use Rattle.survey.proofs.Small.{look, SmallBy, AllFew, given_small, refused_small, few_whole, few_among}
 
 -- 3 to 12

@@ -50,6 +50,17 @@ unfolding AllClear
 clear_fine [] c = none_left
 clear_fine (f ∷ fs) c = past c.0 (clear_fine fs c.1)
 
+-- Of two lists of faults in a row.
+pub clear_parts : (fs gs : List Fault) → AllClear (fs ++ gs) → AllClear fs × AllClear gs
+unfolding AllClear
+clear_parts [] gs c = (tt, c)
+clear_parts (f ∷ fs) gs c = let rest = clear_parts fs gs c.1 in ((c.0, rest.0), rest.1)
+
+pub clear_both : (fs gs : List Fault) → AllClear fs → AllClear gs → AllClear (fs ++ gs)
+unfolding AllClear
+clear_both [] gs c d = d
+clear_both (f ∷ fs) gs c d = (c.0, clear_both fs gs c.1 d)
+
 -- There is one lowest place.
 pub lowest_one : {f : Fault} {j k : ℕ} → Lowest f j → Lowest f k → j ≡ k
 lowest_one {f} {j} {k} a b = go (dec_lt j k) (dec_lt k j)

@@ -1,4 +1,6 @@
-// Refusals, each with its number and its place (Specification 10.1), and the answers of the parts (12.2).
+// Refusals, each with its number and its place (Specification 10.1), and what the reader answers (12.2). Each part's answer is a Result whose error is
+// the refusal: `Result<(), Refusal>` where there is nothing else to say, `Result<Size, Refusal>` of the reader, and `Result<u64, Refusal>` of the chooser,
+// its count of rounds.
 
 #[derive(Clone, Copy)]
 pub enum Place {
@@ -14,30 +16,9 @@ pub struct Refusal {
     pub place: Place,
 }
 
-// Whether a survey given as lists is admitted.
+// The survey's n and e.
 #[derive(Clone, Copy)]
-pub enum Admission {
-    Refused(Refusal),
-    Admitted,
-}
-
-// The reader's answer: the survey's n and e.
-#[derive(Clone, Copy)]
-pub enum Reading {
-    Refused(Refusal),
-    Survey { n: usize, e: usize },
-}
-
-// The chooser's answer: the count of rounds.
-#[derive(Clone, Copy)]
-pub enum Choice {
-    Refused(Refusal),
-    Chosen { rounds: u64 },
-}
-
-// The checker's answer.
-#[derive(Clone, Copy)]
-pub enum Judgement {
-    Refused(Refusal),
-    Accepted,
+pub struct Size {
+    pub n: usize,
+    pub e: usize,
 }

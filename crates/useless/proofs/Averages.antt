@@ -6,7 +6,8 @@ use mathlib.Core.Bool.{Bool, true, not, ◌&&◌, ◌||◌}
 use mathlib.Core.List.{List, [], ◌∷◌}
 use lib.Dec.{ltb}
 use lib.ListN.{get_or}
-use Rattle.survey.specs.declared.answers.Choice.{Choice}
+use Rattle.std.specs.Prelude.{Result}
+use Rattle.survey.specs.declared.answers.Refusal.{Refusal}
 use Rattle.survey.specs.Survey.{Survey}
 use Rattle.survey.specs.Sets.{Set, Same, sum, total, dead_of, cost_of}
 use Rattle.survey.specs.Pick.{Candidate, IsPick}
@@ -99,7 +100,7 @@ pub average_no_pick : IsPick f2 (set_of (1 ∷ 3 ∷ 4 ∷ [])) → ⊥
 average_no_pick p = not_both refl ((pick_one p f2_pick).at 3 (omega arith))
 
 pub averages_on_f2 :
-    {groups links marks amounts marks' amounts' : List ℕ} {r : Choice} → Lends f2 groups links marks amounts
+    {groups links marks amounts marks' amounts' : List ℕ} {r : Result ℕ Refusal} → Lends f2 groups links marks amounts
     → ChooserSays 5 4 groups links marks amounts r marks' amounts' → Same f2 (marked_set marks') (set_of (1 ∷ 3 ∷ 4 ∷ [])) → ⊥
 averages_on_f2 c x e = marks_only_pick c f2_admitted x e average_no_pick
 
@@ -145,6 +146,6 @@ pub averages_no_pick : IsPick uneven (set_of (0 ∷ 1 ∷ 2 ∷ [])) → ⊥
 averages_no_pick p = not_both refl ((pick_one p uneven_pick).at 1 (omega arith))
 
 pub averages :
-    {groups links marks amounts marks' amounts' : List ℕ} {r : Choice} → Lends uneven groups links marks amounts
+    {groups links marks amounts marks' amounts' : List ℕ} {r : Result ℕ Refusal} → Lends uneven groups links marks amounts
     → ChooserSays 3 2 groups links marks amounts r marks' amounts' → Same uneven (marked_set marks') (set_of (0 ∷ 1 ∷ 2 ∷ [])) → ⊥
 averages c x e = marks_only_pick c uneven_admitted x e averages_no_pick

@@ -3,7 +3,8 @@ use Prim.Native.Nat.{ℕ, zero, suc, ◌<◌}
 use mathlib.Core.Path.{refl, ap, ◌∙◌}
 use mathlib.Core.Bool.{Bool, not, ◌&&◌, ◌||◌}
 use mathlib.Core.List.{List, [], ◌∷◌}
-use Rattle.survey.specs.declared.answers.Choice.{Choice}
+use Rattle.std.specs.Prelude.{Result}
+use Rattle.survey.specs.declared.answers.Refusal.{Refusal}
 use Rattle.survey.specs.Survey.{Survey}
 use Rattle.survey.specs.Sets.{Set, In, Same, Contains, Eligible, all_groups, union, sum, total}
 use Rattle.survey.specs.Pick.{BetterSet, IsPick}
@@ -84,6 +85,6 @@ unfolding candidate_test eligible_test closed_test sum total all_below
 growing_no_pick p = p.best.unbeaten all_groups ((candidate_told f7 all_groups).so refl) growing_beaten
 
 pub grows_one_at_a_time :
-    {groups links marks amounts marks' amounts' : List ℕ} {r : Choice} → Lends f7 groups links marks amounts
+    {groups links marks amounts marks' amounts' : List ℕ} {r : Result ℕ Refusal} → Lends f7 groups links marks amounts
     → ChooserSays 4 3 groups links marks amounts r marks' amounts' → Same f7 (marked_set marks') (set_of (0 ∷ [])) → ⊥
 grows_one_at_a_time c x e = marks_only_pick c f7_admitted x e growing_no_pick

@@ -4,9 +4,9 @@ use native.Mathlib.Omega.{arith}
 use mathlib.Core.Path.{◌≡◌, refl, sym, subst, ◌∙◌}
 use mathlib.Core.List.{List, [], ◌∷◌}
 use lib.ListN.{get_or}
+use Rattle.std.specs.Prelude.{Ok, Err}
 use Rattle.survey.specs.Limits.{entry_bytes}
 use Rattle.survey.specs.declared.answers.Refusal.{Refusal}
-use Rattle.survey.specs.declared.answers.Reading.{Reading}
 use Rattle.survey.specs.Words.{entries, survey_of}
 use Rattle.survey.specs.SurveyFile.{n_in, survey_in}
 use Rattle.survey.specs.Refusals.{Clear, AllClear}
@@ -22,11 +22,11 @@ module _ {f groups links groups' links' : List ℕ} where
   -- One that refuses whatever it gets: an admitted file is not refused, with lists long enough.
   pub refuses_every_file :
       Clear (too_short (group_list (entries groups) ∷ link_list (entries links) ∷ [])) → AdmittedFile f → {x : Refusal}
-      → ReaderSays f groups links (Reading.Refused x) groups' links' → ⊥
+      → ReaderSays f groups links (Err x) groups' links' → ⊥
   unfolding AllClear
   refuses_every_file long a y = none_refused (reader_faults f groups links) (long, a.clear) y.verdict refl
 
-  module _ {n e : ℕ} (x : ReaderSays f groups links (Reading.Survey n e) groups' links') where
+  module _ {n e : ℕ} (x : ReaderSays f groups links (Ok (record { n = n; e = e })) groups' links') where
     -- The lists that an allowed answer leaves give the file's own survey.
     pub own_survey : survey_of n e groups' links' ≡ survey_in f
     own_survey =
@@ -46,7 +46,7 @@ SameEntries k l l' = (i : ℕ) → i < entry_bytes * k → get_or l i 0 ≡ get_
 -- entries, whatever was lent and whatever stands after the entries.
 pub same_survey_each_time :
     {f f₂ groups links groups₂ links₂ groups' links' groups₂' links₂' : List ℕ} {n e : ℕ} → Bytes f → Bytes f₂ → (f ≡ f₂ → ⊥)
-    → ReaderSays f groups links (Reading.Survey n e) groups' links' → ReaderSays f₂ groups₂ links₂ (Reading.Survey n e) groups₂' links₂'
+    → ReaderSays f groups links (Ok (record { n = n; e = e })) groups' links' → ReaderSays f₂ groups₂ links₂ (Ok (record { n = n; e = e })) groups₂' links₂'
     → SameEntries n groups' groups₂' → SameEntries e links' links₂' → ⊥
 same_survey_each_time {groups' = groups'} {links' = links'} {groups₂' = groups₂'} {links₂' = links₂'} {n = n} {e = e} small small₂ d x y g l =
     d (same_file small small₂ (read_admitted x) (read_admitted y) (sym (own_survey x) ∙ same_entries n e groups' groups₂' links' links₂' g l ∙ own_survey y))
@@ -57,13 +57,13 @@ module _ {groups links groups' links' : List ℕ} where
   -- one that refuses whatever it gets
   pub refuses_f2 :
       Clear (too_short (group_list (entries groups) ∷ link_list (entries links) ∷ [])) → {x : Refusal}
-      → ReaderSays f2_file groups links (Reading.Refused x) groups' links' → ⊥
+      → ReaderSays f2_file groups links (Err x) groups' links' → ⊥
   refuses_f2 long y = refuses_every_file long f2_file_admitted y
 
   -- the same survey every time: whatever it fills its lists with, it is not allowed for both files, since no n is
   pub same_for_f2_and_f7 :
-      {groups₇ links₇ groups₇' links₇' : List ℕ} {n e : ℕ} → ReaderSays f2_file groups links (Reading.Survey n e) groups' links'
-      → ReaderSays f7_file groups₇ links₇ (Reading.Survey n e) groups₇' links₇' → ⊥
+      {groups₇ links₇ groups₇' links₇' : List ℕ} {n e : ℕ} → ReaderSays f2_file groups links (Ok (record { n = n; e = e })) groups' links'
+      → ReaderSays f7_file groups₇ links₇ (Ok (record { n = n; e = e })) groups₇' links₇' → ⊥
   same_for_f2_and_f7 x y = five_not_four (sym x.lists.0 ∙ y.lists.0)
     where
       five_not_four : ◌≡◌ {A = ℕ} 5 4 → ⊥

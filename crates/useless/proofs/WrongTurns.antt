@@ -6,8 +6,8 @@ use mathlib.Core.Path.{◌≡◌, refl}
 use mathlib.Core.Bool.{true, not}
 use mathlib.Core.List.{List, [], ◌∷◌}
 use lib.Dec.{ltb}
-use Rattle.survey.specs.declared.answers.Choice.{Choice}
-use Rattle.survey.specs.declared.answers.Judgement.{Judgement}
+use Rattle.std.specs.Prelude.{Result, Ok}
+use Rattle.survey.specs.declared.answers.Refusal.{Refusal}
 use Rattle.survey.specs.Survey.{Survey}
 use Rattle.survey.specs.Sets.{Set, In, Same, Closed, no_group, sum, total, D, L}
 use Rattle.survey.specs.Pick.{Candidate, IsPick}
@@ -71,7 +71,7 @@ pub forward_no_pick : IsPick f2 (set_of (4 ∷ [])) → ⊥
 forward_no_pick p = forward_not_closed p.best.candidate.eligible.closed
 
 pub closes_forward :
-    {groups links marks amounts marks' amounts' : List ℕ} {r : Choice} → Lends f2 groups links marks amounts
+    {groups links marks amounts marks' amounts' : List ℕ} {r : Result ℕ Refusal} → Lends f2 groups links marks amounts
     → ChooserSays 5 4 groups links marks amounts r marks' amounts' → Same f2 (marked_set marks') (set_of (4 ∷ [])) → ⊥
 closes_forward c x e = marks_only_pick c f2_admitted x e forward_no_pick
 
@@ -80,7 +80,7 @@ closes_forward c x e = marks_only_pick c f2_admitted x e forward_no_pick
 -- Such a set would stand unbeaten, as no product is ever below another (NothingSets). But no allowed answer marks one, whatever the survey: so
 -- none is the empty pick.
 module _
-    {s : Survey} {groups links marks amounts marks' amounts' : List ℕ} {r : Choice} (c : Lends s groups links marks amounts) (admitted : Admitted s)
+    {s : Survey} {groups links marks amounts marks' amounts' : List ℕ} {r : Result ℕ Refusal} (c : Lends s groups links marks amounts) (admitted : Admitted s)
     (x : ChooserSays s.n s.e groups links marks amounts r marks' amounts') where
   pub takes_nothing : {Z : Set} → HasNothing s Z → Same s (marked_set marks') Z → ⊥
   takes_nothing z e = marks_only_pick c admitted x e (nothing_no_pick z)
@@ -117,5 +117,5 @@ largest_forgotten markTail amounts =
 -- And yet, on a call that lends them, the checker may not accept it: refusal 18 at group 1 is the one answer (Checkers.two_refused).
 pub forgets_largest :
     {groups links markTail amounts : List ℕ} → Lends two_alike groups links (1 ∷ 0 ∷ markTail) amounts
-    → LargestForgotten two_alike (1 ∷ 0 ∷ markTail) amounts × (CheckerSays 2 0 groups links (1 ∷ 0 ∷ markTail) amounts Judgement.Accepted → ⊥)
+    → LargestForgotten two_alike (1 ∷ 0 ∷ markTail) amounts × (CheckerSays 2 0 groups links (1 ∷ 0 ∷ markTail) amounts (Ok tt) → ⊥)
 forgets_largest {groups} {links} {markTail} {amounts} c = (largest_forgotten markTail amounts, λ x. always_yes c x)

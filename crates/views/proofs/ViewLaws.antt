@@ -5,7 +5,8 @@ use Rattle.survey.specs.Limits.{block_bytes}
 use Rattle.survey.specs.Words.{word}
 use Rattle.survey.specs.SurveyFile.{block_word, number_in}
 use Rattle.views.specs.declared.view.Block.{Block}
-use Rattle.views.specs.Views.{Within, block_of, Views}
+use Rattle.views.specs.Views.{Within, block_of}
+use Rattle.views.specs.BlockViews.{Views}
 
 -- the part from a place to 512 past it has 512
 pub part_size : (start : ℕ) → start + block_bytes - start ≡ block_bytes
@@ -20,11 +21,8 @@ module _ {f : List ℕ} {b : ℕ} (h : Within f b) where
   unfolding block_of
   block_byte i l = rw (get_or-take, get_or-drop)
 
--- A view of block b shows the words of block b.
+-- A view of block b shows the words of block b. That it has all 512 bytes is a ghost field of `Block`.
 module _ {f : List ℕ} {b : ℕ} (d : Block) (h : Within f b) (e : Views d f b) where
-  pub viewed_length : length d.bytes.now ≡ block_bytes
-  viewed_length = ap length e.bytes ∙ block_length h
-
   pub viewed_word : (w : ℕ) → 4 * w + 4 ≤ block_bytes → word d.bytes.now (4 * w) ≡ block_word f b w
   viewed_word w l = ap (λ (x : List ℕ). word x (4 * w)) e.bytes ∙ omega
       (arith, block_byte h (4 * w) (omega arith), byte 1 (omega arith), byte 2 (omega arith), byte 3 (omega arith))

@@ -1,7 +1,6 @@
--- The view of a block: its bytes, as they stand in the file, and its number (Specification 9).
-use Rattle.std.specs.Prelude.{◌≡◌, ℕ, ◌+◌, ◌*◌, ◌≤◌, List, length, take, drop}
+-- Where a block stands in a file (Specification 9).
+use Rattle.std.specs.Prelude.{ℕ, ◌+◌, ◌*◌, ◌≤◌, List, length, take, drop}
 use Rattle.survey.specs.Limits.{block_bytes}
-use Rattle.views.specs.declared.view.Block.{Block}
 
 -- block b lies within the file
 pub record Within (f : List ℕ) (b : ℕ) : Type 0 where
@@ -10,8 +9,3 @@ pub record Within (f : List ℕ) (b : ℕ) : Type 0 where
 -- the bytes of block b
 unfoldable pub block_of : List ℕ → ℕ → List ℕ
 block_of f b = take block_bytes (drop (block_bytes * b) f)
-
--- the view of block b
-pub record Views (r : Block) (f : List ℕ) (b : ℕ) : Type 0 where
-  pub bytes : r.bytes.now ≡ block_of f b
-  pub number : r.number ≡ b

@@ -7,49 +7,41 @@ ghost use Rattle.views.specs.Views.{Within};
 ghost use Rattle.views.specs.Sums.{sums_of};
 
 use crate::view::{block_check, block_word};
-use std::num::wrapping_add_u32;
 
 #[derive(Clone, Copy)]
-pub struct Sums {
-    pub a: u32,
-    pub b: u32,
+struct Sums {
+    a: u32,
+    b: u32,
 }
 
 // One word further: the word goes into a, and a as it is then into b.
 fn sums_after(s: Sums, x: u32) -> Sums
     ensures { sums_of result ≡ sums_after (sums_of s) x }
 {
-    let a = wrapping_add_u32(s.a, x);
-    let b = wrapping_add_u32(s.b, a);
+    let a = s.a.wrapping_add(x);
+    let b = s.b.wrapping_add(a);
     Sums { a, b }
 }
 
 // The two sums over the content words of block b.
+#[tactic(auto, using(crate::proofs::SumLaws::sums_none, crate::proofs::SumLaws::sums_more))]
 fn block_sums(file: &[u8], b: usize) -> Sums
     requires { Within file.now b }
     ensures { sums_of result ≡ sums (block_word file.now b) content_words }
 {
     let mut s = Sums { a: 1, b: 0 };
-    let mut w = 0;
-    while w < 126 {
-        let x = block_word(file, b, w);
-        s = sums_after(s, x);
-        w += 1;
+    for w in 0..126 {
+        s = sums_after(s, block_word(file, b, w));
     }
     s
 }
 
 // Whether both sums are the ones that the block says.
+// Kept: two comparisons, since the check words are no `Sums` elsewhere: made one, to be compared by a derived `==`, they take five lines for one.
 pub fn check_agrees(file: &[u8], b: usize) -> bool
     requires { Within file.now b }
     ensures { Tells (CheckAgrees file.now b) result }
 {
     let s = block_sums(file, b);
-    if block_check(file, b, 0) != s.a {
-        return false;
-    }
-    if block_check(file, b, 1) != s.b {
-        return false;
-    }
-    true
+    s.a == block_check(file, b, 0) && s.b == block_check(file, b, 1)
 }

@@ -5,24 +5,64 @@ ghost use Rattle.std.specs.Prelude.{◌≡◌, ◌+◌, ◌*◌, ◌<◌, ◌≤
 ghost use Rattle.survey.specs.Limits.{block_bytes, content_words};
 ghost use Rattle.survey.specs.Words.{word};
 ghost use Rattle.survey.specs.SurveyFile.{block_word, number_in};
-ghost use Rattle.views.specs.Views.{Within, block_of, Views};
+ghost use Rattle.views.specs.Views.{Within, block_of};
 
 use words::word_at;
 
 #[derive(Clone, Copy)]
-pub struct Block<'a> {
-    pub bytes: &'a [u8],
-    pub number: usize,
+struct Block<'a> {
+    bytes: &'a [u8],
+    number: usize,
+    ghost whole: { length bytes.now ≡ block_bytes },
+}
+
+impl<'a> Block<'a> {
+    ghost use Rattle.views.specs.BlockViews.{Views};
+
+    // The view of block b: nothing is copied.
+    #[tactic(auto, using(crate::proofs::ViewLaws::block_length))]
+    fn at(file: &'a [u8], b: usize) -> Block<'a>
+        requires { Within file.now b }
+        ensures { Views result file.now b }
+    {
+        Block {
+            bytes: bytes_of(file, b),
+            number: b,
+        }
+    }
+
+    // A content word of the viewed block.
+    fn shown(&self, w: usize) -> u32
+        requires { w < content_words }
+        ensures { result ≡ word self.now.bytes.now (4 * w) }
+    {
+        word_of(self.bytes, w)
+    }
+
+    // The check words are no content, so they are shown apart.
+    fn check_word(&self, which: usize) -> u32
+        requires { which < 2 }
+        ensures { result ≡ word self.now.bytes.now (4 * (content_words + which)) }
+    {
+        check_word_of(self.bytes, which)
+    }
+
+    // Whether the block's first word is the number that the view knows.
+    fn numbered(&self) -> bool
+        ensures { result ≡ (word self.now.bytes.now 0 == self.now.number) }
+    {
+        says_number(self.bytes, self.number)
+    }
 }
 
 // The bytes of block b, where they stand.
+#[tactic(auto, using(crate::proofs::ViewLaws::part_size), unfolding(crate::specs::Views::block_of))]
 fn bytes_of<'a>(file: &'a [u8], b: usize) -> &'a [u8]
     requires { Within file.now b }
     ensures { result.now ≡ block_of file.now b }
 {
     let start = 512 * b;
-    let end = start + 512;
-    &file[start..end]
+    &file[start..start + 512]
 }
 
 // Word w of a block's bytes.
@@ -50,61 +90,31 @@ fn says_number(bytes: &[u8], number: usize) -> bool
     first as usize == number
 }
 
-// The view of block b: nothing is copied.
-fn block_at<'a>(file: &'a [u8], b: usize) -> Block<'a>
-    requires { Within file.now b }
-    ensures { Views result file.now b }
-{
-    Block {
-        bytes: bytes_of(file, b),
-        number: b,
-    }
-}
-
-// A content word of the viewed block.
-fn shown<'a>(block: Block<'a>, w: usize) -> u32
-    requires { (length block.bytes.now ≡ block_bytes) × (w < content_words) }
-    ensures { result ≡ word block.entry.bytes.now (4 * w) }
-{
-    word_of(block.bytes, w)
-}
-
-// The check words are no content, so they are shown apart.
-fn check_word<'a>(block: Block<'a>, which: usize) -> u32
-    requires { (length block.bytes.now ≡ block_bytes) × (which < 2) }
-    ensures { result ≡ word block.entry.bytes.now (4 * (content_words + which)) }
-{
-    check_word_of(block.bytes, which)
-}
-
-// Whether the block's first word is the number that the view knows.
-fn numbered<'a>(block: Block<'a>) -> bool
-    requires { length block.bytes.now ≡ block_bytes }
-    ensures { result ≡ (word block.entry.bytes.now 0 == block.entry.number) }
-{
-    says_number(block.bytes, block.number)
-}
-
 // Word w of block b, through its view.
+// Kept: that block b is there is a clause, here and below, and in no type: docs/FORMS.md asks for plain parameters above the view.
+#[tactic(auto, using(crate::proofs::ViewLaws::viewed_word))]
 pub fn block_word(file: &[u8], b: usize, w: usize) -> u32
     requires { Within file.now b × (w < content_words) }
     ensures { result ≡ block_word file.now b w }
 {
-    shown(block_at(file, b), w)
+    Block::at(file, b).shown(w)
 }
 
 // Check word 0 or 1 of block b, through its view.
+// Kept: `which` is a number and no enum, since the clauses of this function count with it.
+#[tactic(auto, using(crate::proofs::ViewLaws::viewed_word))]
 pub fn block_check(file: &[u8], b: usize, which: usize) -> u32
     requires { Within file.now b × (which < 2) }
     ensures { result ≡ block_word file.now b (content_words + which) }
 {
-    check_word(block_at(file, b), which)
+    Block::at(file, b).check_word(which)
 }
 
 // Whether word 0 of block b is b, through its view.
+#[tactic(auto, using(crate::proofs::ViewLaws::viewed_number))]
 pub fn block_numbered(file: &[u8], b: usize) -> bool
     requires { Within file.now b }
     ensures { result ≡ (number_in file.now b == b) }
 {
-    numbered(block_at(file, b))
+    Block::at(file, b).numbered()
 }

@@ -1,24 +1,24 @@
 -- Sums over the marked groups: how they grow, that they stay small, and that they are those of every survey with these groups.
-use Prim.Native.Nat.{ℕ, ◌+◌, ◌*◌, ◌≤◌, ◌<◌, ◌^◌, zero-le}
+use Prim.Native.Nat.{ℕ, ◌+◌, ◌*◌, ◌≤◌, ◌<◌, zero-le}
 use native.Mathlib.Omega.{arith}
 use mathlib.Core.Path.{◌≡◌, refl, sym, ap, ◌∙◌}
 use mathlib.Core.Bool.{Bool, true, false}
 use mathlib.Core.List.{List, []}
 use lib.ListN.{length, get_or}
 use borrow.Author.Tests.{eq-eqb, ne_eqb}
-use Rattle.survey.specs.Limits.{group_limit, count_limit, entry_bytes, sum_limit}
-use Rattle.survey.specs.Survey.{Group}
+use Rattle.survey.specs.Limits.{count_limit, entry_bytes, sum_limit}
+use Rattle.survey.specs.Survey.{Group, Survey}
 use Rattle.survey.specs.Words.{survey_at, survey_of, group_at, lent, marked_set}
 use Rattle.survey.specs.Sets.{Set, sum, only, total, cost, D, L}
 use Rattle.survey.proofs.SumOrder.{sum_at_most}
-use Rattle.survey.proofs.Sums.{sum_cong}
+use Rattle.survey.proofs.Sums.{sum_cong, sum_more}
 use Rattle.survey.proofs.GivenSurvey.{given_group}
 use Rattle.survey.specs.Sound.{Sound}
 use Rattle.survey.proofs.Admitted.{dead_small, cost_small}
 use Rattle.counts.specs.declared.Dead.{Dead}
 use Rattle.counts.specs.declared.Live.{Live}
 use Rattle.counts.specs.Counts.{CountsFit}
-use Rattle.weights.specs.Marked.{groups_of, SomeGroups}
+use Rattle.weights.specs.Marked.{groups_of, total_of, SomeGroups}
 
 -- ---- a sum, term by term
 
@@ -30,12 +30,9 @@ only_le : (t : Bool) {x y : ℕ} → x ≤ y → only t x ≤ y
 only_le true h = h
 only_le false h = zero-le
 
--- what each group brings to a sum
-abbrev pub deads : List ℕ → List ℕ → ℕ → ℕ
-deads groups marks g = only (marked_set marks g) (group_at groups lent g).dead
-
-abbrev pub costs : List ℕ → List ℕ → ℕ → ℕ
-costs groups marks g = only (marked_set marks g) (cost (group_at groups lent g))
+-- what group g brings to a sum of what f says of the marked groups
+unfoldable pub brought : (Group → ℕ) → List ℕ → List ℕ → ℕ → ℕ
+brought f groups marks g = only (marked_set marks g) (f (group_at groups lent g))
 
 -- a group is marked, or it is not
 pub marked_brings : (marks : List ℕ) (g x : ℕ) → get_or marks g 0 ≡ 1 → x ≡ only (marked_set marks g) x
@@ -44,27 +41,40 @@ marked_brings marks g x h = rw (eq-eqb (get_or marks g 0) 1 h)
 pub unmarked_brings : (marks : List ℕ) (g x : ℕ) → (get_or marks g 0 ≡ 1 → ⊥) → 0 ≡ only (marked_set marks g) x
 unmarked_brings marks g x d = rw (ne_eqb (get_or marks g 0) 1 d)
 
--- a further term does not make the sum wrap
-next_fits : (n g : ℕ) (f : ℕ → ℕ) → n ≤ group_limit → g < n → ((i : ℕ) → i < n → f i ≤ count_limit) → sum g f + f g < 2 ^ 64
-next_fits n g f few l small = omega (arith, sum_at_most g count_limit f (λ i h. small i (omega arith)), small g l)
+-- a further group: one that is marked is added, and one that is not changes nothing
+module _ (f : Group → ℕ) (groups marks : List ℕ) (g : ℕ) where
+  pub marked_more : get_or marks g 0 ≡ 1 → sum (g + 1) (brought f groups marks) ≡ sum g (brought f groups marks) + f (group_at groups lent g)
+  unfolding brought
+  marked_more h = omega (arith, sum_more g (brought f groups marks), marked_brings marks g (f (group_at groups lent g)) h)
 
-module _ {n : ℕ} {groups : List ℕ} (p : SomeGroups n groups) (marks : List ℕ) (g : ℕ) (l : g < n) where
-  pub dead_fits : sum g (deads groups marks) + deads groups marks g < 2 ^ 64
-  dead_fits = next_fits n g (deads groups marks) p.few l (λ i h. only_le (marked_set marks i) (p.counts i h).dead)
+  pub unmarked_more : (get_or marks g 0 ≡ 1 → ⊥) → sum (g + 1) (brought f groups marks) ≡ sum g (brought f groups marks)
+  unfolding brought
+  unmarked_more d = omega (arith, sum_more g (brought f groups marks), unmarked_brings marks g (f (group_at groups lent g)) d)
 
-  pub cost_fits : sum g (costs groups marks) + costs groups marks g < 2 ^ 64
-  cost_fits = next_fits n g (costs groups marks) p.few l (λ i h. only_le (marked_set marks i) (p.counts i h).live)
+-- what at most group_limit groups bring is small
+module _ {n : ℕ} {groups : List ℕ} (p : SomeGroups n groups) (marks : List ℕ) (f : Group → ℕ) (small : (x : Group) → CountsFit x → f x ≤ count_limit) where
+  pub brought_small : (g : ℕ) → g ≤ n → sum g (brought f groups marks) ≤ sum_limit
+  unfolding brought
+  brought_small g l = omega (arith, p.few, sum_at_most g count_limit (brought f groups marks) one)
+    where
+      one : (i : ℕ) → i < g → brought f groups marks i ≤ count_limit
+      one i h = only_le (marked_set marks i) (small (group_at groups lent i) (p.counts i (omega arith)))
 
 -- ---- the sums are D and L
 
-module _ (n : ℕ) (groups marks : List ℕ) where
-  pub dead_whole : sum n (deads groups marks) ≡ D (groups_of n groups) (marked_set marks)
-  unfolding total survey_at
-  dead_whole = sum_cong n (deads groups marks) _ (λ g h. ap (λ (x : Group). only (marked_set marks g) x.dead) (sym (given_group n 0 groups lent [] lent g h)))
+pub marked_whole : (f : Group → ℕ) (n : ℕ) (groups marks : List ℕ) → sum n (brought f groups marks) ≡ total_of f (groups_of n groups) (marked_set marks)
+unfolding brought total survey_at
+marked_whole f n groups marks =
+    sum_cong n (brought f groups marks) _ (λ g h. ap (λ (x : Group). only (marked_set marks g) (f x)) (sym (given_group n 0 groups lent [] lent g h)))
 
-  pub cost_whole : sum n (costs groups marks) ≡ L (groups_of n groups) (marked_set marks)
-  unfolding total survey_at
-  cost_whole = sum_cong n (costs groups marks) _ (λ g h. ap (λ (x : Group). only (marked_set marks g) (cost x)) (sym (given_group n 0 groups lent [] lent g h)))
+-- what the proof of marked_sum goes by
+pub ruleset marked_steps = (sum_none, marked_more, unmarked_more, marked_whole)
+
+pub dead_total : (s : Survey) (S : Set) → total_of (λ g. g.dead) s S ≡ D s S
+dead_total s S = refl
+
+pub cost_total : (s : Survey) (S : Set) → total_of cost s S ≡ L s S
+cost_total s S = refl
 
 -- the same in every survey that has these groups
 module _ (n e : ℕ) (groups links : List ℕ) (S : Set) where

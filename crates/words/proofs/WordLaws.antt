@@ -1,16 +1,21 @@
 -- Laws of numbers in bytes: first over the width, which is the number of bytes, then at the two widths in use, 4 and 8.
 -- Assumes nothing.
-use Prim.Native.Nat.{ℕ, zero, suc, ◌+◌, ◌*◌, ◌/◌, ◌%◌, ◌^◌, ◌≤◌, ◌<◌}
+use Prim.Native.Nat.{ℕ, zero, suc, ◌+◌, ◌-◌, ◌*◌, ◌/◌, ◌^◌, ◌≤◌, ◌<◌}
 use mathlib.Core.Path.{◌≡◌, refl, sym, ap, ◌∙◌}
 use mathlib.Core.Logic.{◌⊎◌, inl, inr}
 use mathlib.Core.List.{List, [], ◌∷◌}
 use native.Mathlib.Omega.{arith}
-use native.Mathlib.Nat.{add-zero, add-suc, suc-add, pow-suc}
+use native.Mathlib.Nat.{add-zero, add-suc, suc-add, pow-suc, div-div-eq-div-mul}
 use native.Mathlib.Numerals.{add-one, add-two, add-three, add-four}
 use mir.Syntax.{w8}
 use mir.Val.{Fits}
 use lib.ListN.{length, get_or, set, length-set}
 use lib.Seq.{sets, length-sets, get_or-set_same, get_or-set_other}
+use borrow.Rule.Slice.PartMut.{put_mid}
+use Rattle.std.specs.Int.{w32, w64, bytes_low_first, to_le_bytes}
+use Rattle.std.proofs.lemmas.Slice.{put_mid-paste}
+use Rattle.std.proofs.lemmas.List.Edits.{paste_all, sets-eq}
+use Rattle.std.proofs.Common.{append_assoc}
 use Rattle.survey.specs.Words.{word, long_word}
 use Rattle.words.specs.Words.{bytes_of, with_word, with_long_word, Bytes}
 
@@ -50,14 +55,20 @@ number_of (suc width) x h =
     let high : number (bytes_of width (x / 256)) ≡ x / 256 = number_of width (x / 256) (omega arith) in
     omega arith
 
--- What stands above them is nothing to the low bytes.
-low_bytes : (width x y : ℕ) → bytes_of width (x + 256 ^ width * y) ≡ bytes_of width x
-low_bytes zero x y = refl
-low_bytes (suc width) x y =
-    let power : 256 ^ suc width * y ≡ 256 * (256 ^ width * y) = rw pow-suc (omega arith) in
-    let byte : (x + 256 ^ suc width * y) % 256 ≡ x % 256 = omega arith in
-    let rest : (x + 256 ^ suc width * y) / 256 ≡ x / 256 + 256 ^ width * y = omega arith in
-    cc (low_bytes width (x / 256) y)
+bytes_long : (width x : ℕ) → length (bytes_of width x) ≡ width
+bytes_long zero x = refl
+bytes_long (suc width) x = ap suc (bytes_long width (x / 256))
+
+-- The library's bytes of a number are these.
+low_first : (i width x : ℕ) → bytes_low_first i width x ≡ bytes_of width (x / 256 ^ i)
+low_first i zero x = refl
+low_first zero (suc width) x =
+    let whole : x / 256 ^ 0 ≡ x = omega arith in
+    let rest : x / 256 ^ 1 ≡ x / 256 = omega arith in
+    rw (whole, low_first 1 width x, rest)
+low_first (suc i) (suc width) x =
+    let rest : x / 256 ^ suc (suc i) ≡ x / 256 ^ suc i / 256 = rw (pow-suc, ← div-div-eq-div-mul x (256 ^ suc i) 256) in
+    cc (low_first (suc (suc i)) width x)
 
 -- Bytes that are stored one after the other: outside of them nothing changes ..
 sets_outside : (vs l : List ℕ) (i j : ℕ) → (j < i) ⊎ (i + length vs ≤ j) → get_or (sets l i vs) j 0 ≡ get_or l j 0
@@ -151,20 +162,22 @@ module _ (l : List ℕ) (i x : ℕ) where
   long_word_with_other j h =
       long_number (with_long_word l i x) j ∙ ap number (bytes_at_outside 8 (bytes_of 8 x) l i j h) ∙ sym (long_number l j)
 
-  -- What `put_word` stores, byte by byte ..
-  pub stored_word :
-      set (set (set (set l i (x % 256)) (i + 1) (x / 256 % 256)) (i + 2) (x / 65_536 % 256)) (i + 3) (x / 16_777_216 % 256) ≡ with_word l i x
-  unfolding with_word
-  stored_word =
-      let third : x / 65_536 % 256 ≡ x / 256 / 256 % 256 = omega arith in
-      let fourth : x / 16_777_216 % 256 ≡ x / 256 / 256 / 256 % 256 = omega arith in
-      simp (add-one, add-two, add-three, third, fourth)
+-- The library's bytes of a number, written over a part of the list.
+overwritten :
+    (l : List ℕ) (width i x : ℕ) → i + width ≤ length l
+    → sets l i (bytes_of width x) ≡ put_mid i (i + width - i) l (bytes_low_first 0 width x)
+overwritten l width i x h =
+    let same : bytes_low_first 0 width x ≡ bytes_of width x = low_first 0 width x ∙ ap (bytes_of width) (omega arith) in
+    let long : length (bytes_of width x) ≡ width = bytes_long width x in
+    sym
+    (put_mid-paste i _ l _ (bytes_of width x) _ same (omega arith) refl
+    ∙ paste_all l i (bytes_of width x) _ refl ∙ sym (simp append_assoc at (sets-eq (bytes_of width x) l i (omega arith))))
 
-  -- .. and `put_long_word`, word by word.
-  pub stored_words : with_word (with_word l i (x % 4_294_967_296)) (i + 4) (x / 4_294_967_296) ≡ with_long_word l i x
-  unfolding with_word with_long_word
-  stored_words =
-      let parts : x ≡ x % 4_294_967_296 + 256 ^ 4 * (x / 4_294_967_296) = omega arith in
-      let low : bytes_of 4 x ≡ bytes_of 4 (x % 4_294_967_296) = ap (bytes_of 4) parts ∙ low_bytes 4 (x % 4_294_967_296) (x / 4_294_967_296) in
-      let high : x / 4_294_967_296 ≡ x / 256 / 256 / 256 / 256 = omega arith in
-      ap (λ bs. sets (sets l i bs) (i + 4) (bytes_of 4 (x / 4_294_967_296))) (sym low) ∙ simp (add-four, high)
+-- So this is what `put_word` leaves, and `put_long_word`.
+pub word_written : (l : List ℕ) (i x : ℕ) → i + 4 ≤ length l → with_word l i x ≡ put_mid i (i + 4 - i) l (to_le_bytes w32 x)
+unfolding with_word
+word_written l = overwritten l 4
+
+pub long_word_written : (l : List ℕ) (i x : ℕ) → i + 8 ≤ length l → with_long_word l i x ≡ put_mid i (i + 8 - i) l (to_le_bytes w64 x)
+unfolding with_long_word
+long_word_written l = overwritten l 8

@@ -1,52 +1,48 @@
-// Numbers in bytes, low byte first. A word is 4 bytes and a long word two words, the low one first.
+// Numbers in bytes, low byte first. A word is 4 bytes and a long word 8, so two words, the low one first.
 #![tactic(auto)]
 
-ghost use Rattle.std.specs.Prelude.{◌≡◌, ◌+◌, ◌≤◌, ◌<◌, length, get_or};
+ghost use Rattle.std.specs.Prelude.{◌≡◌, ◌+◌, ◌≤◌, length, take, drop};
 ghost use Rattle.survey.specs.Words.{word, long_word};
 ghost use Rattle.words.specs.Words.{with_word, with_long_word};
 
-// A byte, with its bound: so that nothing above asks for it again.
-fn byte_at(b: &[u8], i: usize) -> u32
-    requires { i < length b.now }
-    ensures { (result ≡ get_or b.now i 0) × (result < 256) }
+// N bytes from place i on. No array is left of it: what reads or writes below compiles to one load or one store.
+fn bytes_at<const N: usize>(b: &[u8], i: usize) -> [u8; N]
+    requires { i + N ≤ length b.now }
+    ensures { result ≡ take N (drop i b.now) }
 {
-    b[i] as u32
+    let mut bytes = [0; N];
+    bytes.copy_from_slice(&b[i..i + N]);
+    bytes
 }
 
-// Sums of products, since these are proved by themselves where shifts are not; it compiles to one load.
+// Kept: a function for a word and one for a long word, to read and to write, since their types differ and their clauses name a definition each. What
+// depends on the width alone is one: `bytes_at` here, and `overwritten` in proofs/WordLaws.
 pub fn word_at(b: &[u8], i: usize) -> u32
     requires { i + 4 ≤ length b.now }
     ensures { result ≡ word b.now i }
 {
-    byte_at(b, i)
-        + 256 * byte_at(b, i + 1)
-        + 65_536 * byte_at(b, i + 2)
-        + 16_777_216 * byte_at(b, i + 3)
+    u32::from_le_bytes(bytes_at(b, i))
 }
 
 pub fn long_word_at(b: &[u8], i: usize) -> u64
     requires { i + 8 ≤ length b.now }
     ensures { result ≡ long_word b.now i }
 {
-    let low = word_at(b, i);
-    let high = word_at(b, i + 4);
-    low as u64 + 4_294_967_296 * (high as u64)
+    u64::from_le_bytes(bytes_at(b, i))
 }
 
+#[tactic(auto, using(crate::proofs::WordLaws::word_written))]
 pub fn put_word(b: &mut [u8], i: usize, x: u32)
     requires { i + 4 ≤ length b.old }
     ensures { b.new ≡ with_word b.old i x }
 {
-    b[i] = (x % 256) as u8;
-    b[i + 1] = (x / 256 % 256) as u8;
-    b[i + 2] = (x / 65_536 % 256) as u8;
-    b[i + 3] = (x / 16_777_216 % 256) as u8;
+    b[i..i + 4].copy_from_slice(&x.to_le_bytes());
 }
 
+#[tactic(auto, using(crate::proofs::WordLaws::long_word_written))]
 pub fn put_long_word(b: &mut [u8], i: usize, x: u64)
     requires { i + 8 ≤ length b.old }
     ensures { b.new ≡ with_long_word b.old i x }
 {
-    put_word(b, i, (x % 4_294_967_296) as u32);
-    put_word(b, i + 4, (x / 4_294_967_296) as u32);
+    b[i..i + 8].copy_from_slice(&x.to_le_bytes());
 }

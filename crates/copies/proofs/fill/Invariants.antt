@@ -1,11 +1,7 @@
 -- `copies::fill` meets its contract. The invariant: the list is filled as far as pair k. Assumes nothing.
-use Prim.Native.Nat.{◌≤◌, ◌-◌}
 use Rattle.survey.specs.SurveyFile.{in_blocks}
 use Rattle.survey.specs.Promises.{Filled}
 use Rattle.copies.proofs.fill.Given as goal
 
 abbrev pub invariant-loop-k : goal.invariant-loop-k
-invariant-loop-k l = Filled l.initial.list l.list l.k l.file (in_blocks l.start) × (l.k ≤ l.count)
-
-abbrev pub decreases-loop-k : goal.decreases-loop-k
-decreases-loop-k l = l.count - l.k
+invariant-loop-k l = Filled l.initial.list l.list l.k l.file (in_blocks l.start)

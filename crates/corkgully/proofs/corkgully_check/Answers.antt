@@ -4,6 +4,3 @@ use Rattle.corkgully.proofs.corkgully_check.Goals as goal
 
 pub judgement_number-requires : goal.judgement_number-requires
 judgement_number-requires c = judgement_small c.check.result c.check.ensures
-
-pub returns : goal.returns
-returns c = record { judgement = c.check.result; says = c.check.ensures; is = c.judgement_number.ensures }

@@ -3,18 +3,17 @@ use Rattle.cycles.proofs.PeelEnd.{peel_tells}
 use Rattle.cycles.proofs.Peels.{peel_none}
 use Rattle.cycles.proofs.ListLaws.{ends_inside}
 use Rattle.cycles.proofs.Into.{indexed_kept}
-use Rattle.cycles.proofs.HalfLaws.{blank}
-use borrow.Author.Rules.{rules}
+use Rattle.cycles.proofs.TallyLaws.{blank}
 use Rattle.cycles.proofs.has_cycle.Goals as goal
 
 pub tally-requires : goal.tally-requires
-tally-requires c = (c.requires, search rules, blank group_limit)
+tally-requires c = blank group_limit
 
 pub peel-peeled-requires : goal.peel-peeled-requires
 peel-peeled-requires c =
     let tally = c.tally.ensures in
     let stack = c.stack-top.ensures in
-    (c.requires, search rules, peel_none tally.low stack.0, indexed_kept stack.1 tally.index)
+    (peel_none tally.count stack.0, indexed_kept stack.1 tally.index)
 
 pub returns : goal.returns
 returns c = peel_tells (ends_inside c.requires) c.peel-peeled.ensures

@@ -1,6 +1,6 @@
 -- `input::read_full` meets its contract. What stands before `done` is what the input has given. The room that is left falls, since a read that goes on
 -- has moved a byte. Assumes nothing.
-use Rattle.std.proofs.Common.{◌≡◌, ◌≤◌, ◌-◌, length, take}
+use Rattle.std.proofs.Common.{◌≤◌, ◌-◌, length, take}
 use Rattle.std.specs.Io.KnownBytes.{Consumes}
 use Rattle.input.proofs.read_full.Given as goal
 

@@ -2,12 +2,12 @@
 use Rattle.weights.specs.Put.{PutFirst}
 use Rattle.weights.specs.Marked.{groups_of}
 use Rattle.survey.specs.Sets.{dead_of, cost_of}
-use Prim.Native.Nat.{◌≤◌, ◌-◌, ◌*◌}
+use Prim.Native.Nat.{◌*◌}
 use Rattle.weights.proofs.put_weights.Given as goal
 
 abbrev pub invariant-loop-g : goal.invariant-loop-g
-invariant-loop-g here = (here.g ≤ here.n) × PutFirst here.g (λ i. dead_of (groups_of here.n here.groups) i * here.l.0) here.initial.plus here.plus × PutFirst here.g
-    (λ i. cost_of (groups_of here.n here.groups) i * here.d.0) here.initial.minus here.minus
-
-abbrev pub decreases-loop-g : goal.decreases-loop-g
-decreases-loop-g here = here.n - here.g
+invariant-loop-g here =
+    record {
+      pluses : PutFirst here.g (λ i. dead_of (groups_of here.lists.n here.lists.groups.now) i * here.l.0) here.initial.plus here.plus;
+      minuses : PutFirst here.g (λ i. cost_of (groups_of here.lists.n here.lists.groups.now) i * here.d.0) here.initial.minus here.minus;
+    }

@@ -1,25 +1,15 @@
-use borrow.Author.Count.{below_more}
-use native.Mathlib.Omega.{arith}
-use mathlib.Core.Path.{sym, ◌∙◌}
+-- `blocks::tests::unused_are_zero` meets its contract. Every word from the first unused one on is looked at. Assumes nothing.
+use Rattle.std.proofs.Common.{ℕ, ◌≤◌, ◌<◌, ◌≡◌, rules, arith}
+use Rattle.survey.specs.SurveyFile.{block_word, UnusedAreZero}
+use Rattle.refusals.proofs.Looking.{tells_as}
+use Rattle.refusals.proofs.Ranges.{all_from_to}
 use Rattle.blocks.proofs.tests.unused_are_zero.Goals as goal
 
-pub block_word-kind-requires : goal.block_word-kind-requires
-block_word-kind-requires c = (c.requires.0, omega arith)
-
-pub used_words-w-requires : goal.used_words-w-requires
-used_words-w-requires c = (c.requires.1, c.block_word-kind.ensures ∙ c.requires.2)
-
-pub loop-w-init : goal.loop-w-init
-loop-w-init c = (omega arith, λ k l m. absurd (omega arith))
-
-pub block_word-requires : goal.block_word-requires
-block_word-requires c = (c.requires.0, omega arith)
-
-pub returns-then-block_word-ne0 : goal.returns-then-block_word-ne0
-returns-then-block_word-ne0 c = λ u. c.if-block_word-ne0.true (c.block_word.ensures ∙ u.at (c.loop-w.w) c.loop-w.invariant.0 (omega arith))
-
-pub loop-w-preserved : goal.loop-w-preserved
-loop-w-preserved c = (omega arith, below_more _ _ c.loop-w.invariant.1 (λ l. sym c.block_word.ensures ∙ c.if-block_word-ne0.false))
-
 pub returns : goal.returns
-returns c = record { at = λ w l m. c.loop-w.invariant.1 w (omega arith) l }
+returns c =
+    let a = c.args in
+    let from = c.used_words.ensures in
+    tells_as {P = (w : ℕ) → c.used_words.result ≤ w → w < 126 → block_word a.file.now a.b w ≡ 0} {Q = UnusedAreZero a.file.now a.size.n a.size.e a.b} _
+    (λ h. record { at = λ w l m. h w (omega (arith, from)) m })
+    (λ z w l m. z.at w (omega (arith, from)) m)
+    (all_from_to _ _ _ _ _ _ c.all.ensures.ran (λ x q k. search rules) (λ x q k. search rules))

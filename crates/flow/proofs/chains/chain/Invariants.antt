@@ -5,6 +5,3 @@ use Rattle.flow.proofs.chains.chain.Given as goal
 
 abbrev pub invariant-loop-k : goal.invariant-loop-k
 invariant-loop-k l = Chaining l.n l.e l.end (end_in l.ends l.end) l.initial.chains l.k l.chains
-
-abbrev pub decreases-loop-k : goal.decreases-loop-k
-decreases-loop-k l = l.k

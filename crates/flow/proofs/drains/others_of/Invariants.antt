@@ -1,10 +1,6 @@
 -- `flow::drains::others_of` meets its contract. The invariant: the groups before place i of the order are taken out. Assumes nothing.
-use Prim.Native.Nat.{◌≤◌, ◌-◌}
 use Rattle.flow.specs.Drains.{OthersOf}
 use Rattle.flow.proofs.drains.others_of.Given as goal
 
 abbrev pub invariant-loop-i : goal.invariant-loop-i
-invariant-loop-i l = (l.i ≤ l.started) × OthersOf l.order l.i l.initial.others l.others
-
-abbrev pub decreases-loop-i : goal.decreases-loop-i
-decreases-loop-i l = l.started - l.i
+invariant-loop-i l = OthersOf l.order l.i l.initial.others l.others

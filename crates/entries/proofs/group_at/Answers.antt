@@ -1,9 +1,0 @@
--- `entries::group_at` meets its contract. The two words of the entry. Assumes nothing.
-
-use Rattle.entries.proofs.group_at.Goals as goal
-
-pub pair_at-pair-requires : goal.pair_at-pair-requires
-pair_at-pair-requires c = c.requires
-
-pub returns : goal.returns
-returns c = record { dead = c.pair_at-pair.ensures.first; live = c.pair_at-pair.ensures.second }

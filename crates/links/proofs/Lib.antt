@@ -1,2 +1,0 @@
--- The laws behind the looks at links.
-pub mod TestLaws
