@@ -10,7 +10,7 @@ ghost use Rattle.balance.specs.Balances.{AddAsks, AmountsAsk, AmountsAdded, Bala
 use crate::Claim;
 use counts::{Dead, Live};
 use entries::{Lists, amount_at};
-use flow::sizes::GROUPS;
+use survey::limits::GROUPS;
 use weights::{marked_sum, put_weights};
 
 // One place of a list becomes larger.

@@ -6,7 +6,7 @@ ghost use Rattle.balance.specs.Largest.{outside_row, MarksLong, LargestAsks, Lef
 use crate::Claim;
 use entries::Lists;
 use flow::draining::drained;
-use flow::sizes::GROUPS;
+use survey::limits::GROUPS;
 
 // The lowest group that is neither in the draining set t nor claimed.
 fn first_outside(n: usize, t: &[u8], marks: &[u8]) -> Option<usize>

@@ -14,9 +14,9 @@ use crate::balances::Balances;
 use crate::largest::first_left_out;
 use counts::Dead;
 use entries::Lists;
-use flow::sizes::GROUPS;
 use refusals::refused;
 use survey::answers::Refusal;
+use survey::limits::GROUPS;
 
 // What is claimed of a survey: a mark for each group and an amount for each link, in two lists that are lent.
 #[derive(Clone, Copy)]

@@ -8,12 +8,15 @@ use native.Mathlib.Omega.{arith}
 use native.Mathlib.Nat.{mod-lt, min-zero, one-mul, add-zero, zero-div, div-one, div-eq_of_lt, mul-mod_left, pow-suc}
 use native.Mathlib.Numerals.{one-add}
 use lib.Arith.{digits_mod}
-use lib.Pow.{pow_pos, pow-lt, pow-add, split, shl-shr, shr-shr}
+use lib.Pow.{shl_exact, pow_pos, pow-lt, pow-add, split, shl-shr, shr-shr}
 use lib.Bits.{bit_and, bit_or, bit_xor, differ, and_step, or_step, xor_step, and_shr, or_shr, xor_shr}
-use lib.Bits.{or_lt, and_block, and_mask, and_zero_r, or_add_and, xor_add_and}
+use lib.Bits.{or_lt, xor_lt, and_block, and_mask, and_zero_r, or_add_and, xor_add_and}
 use lib.Count.{count_trailing_zeros, under}
 use lib.ListN.{length, get_or, set, length-set, replicate, get_or-replicate}
 use lib.Seq.{get_or-set_same, get_or-set_other, set_out}
+use Rattle.std.specs.Int.{w64}
+use Rattle.std.proofs.lemmas.Nat.{and_le_l}
+use Rattle.std.proofs.lemmas.Nat.Bits.{bit_at_clear_same, bit_at_clear_other}
 use Rattle.bits.specs.Bits.{digit, bit, with, without, put_bit, cut_bit}
 
 -- ---- digits
@@ -148,6 +151,31 @@ module _ (w i : ℕ) where
   -- Words stay words.
   pub with_word_lem : w < 2 ^ 64 → i < 64 → with w i < 2 ^ 64
   with_word_lem small h = or_lt 64 w (2 ^ i) small (pow-lt h)
+
+-- Words below 2 ^ k with the same digits are one word.
+same_digits : (k a b : ℕ) → a < 2 ^ k → b < 2 ^ k → ((i : ℕ) → i < k → digit a i ≡ digit b i) → a ≡ b
+unfolding digit
+same_digits zero a b la lb same = omega arith
+same_digits (suc k) a b la lb same =
+    let half : a / 2 ≡ b / 2 =
+    same_digits k (a / 2) (b / 2) (omega (arith, pow-suc 2 k)) (omega (arith, pow-suc 2 k))
+    (λ i h. sym (half_digit a i) ∙ same (suc i) (omega arith) ∙ half_digit b i) in
+    omega (arith, half, same 0 (omega arith))
+
+-- So to keep all digits but one is to set that one and flip it.
+pub kept_without : (w i : ℕ) → w < 2 ^ 64 → i < 64 → bit_and w (2 ^ 64 - 1 - 2 ^ i) ≡ without w i
+unfolding digit
+kept_without w i small h =
+    same_digits 64 (bit_and w (2 ^ 64 - 1 - 2 ^ i)) (without w i) (omega (arith, and_le_l w (2 ^ 64 - 1 - 2 ^ i)))
+    (xor_lt 64 (with w i) (2 ^ i) (with_word_lem w i small h) (pow-lt h))
+    (λ j l. go j l (ℕ_discrete j i))
+  where
+    one : 1 * 2 ^ i % 2 ^ 64 ≡ 2 ^ i
+    one = shl_exact {a = 1} 1 i 64 (omega arith) (omega arith) ∙ one-mul (2 ^ i)
+
+    go : (j : ℕ) → j < 64 → Dec (j ≡ i) → digit (bit_and w (2 ^ 64 - 1 - 2 ^ i)) j ≡ digit (without w i) j
+    go j l (yes e) = rw e ((rw one at (bit_at_clear_same w64 w i h)) ∙ sym (without_same w i))
+    go j l (no d) = (rw one at (bit_at_clear_other w64 w i h j l d)) ∙ sym (without_other w i j d)
 
 -- ---- rows
 

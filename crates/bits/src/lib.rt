@@ -6,7 +6,7 @@ ghost use Rattle.std.specs.Int.Count.{count_trailing_zeros};
 ghost use Rattle.bits.specs.Bits.{without, put_bit, cut_bit};
 
 // The word that has every group.
-pub const FULL: u64 = 18_446_744_073_709_551_615;
+pub const FULL: u64 = u64::MAX;
 
 // The word with digit i alone, and no shift in its promise: so nothing above asks again whether one loses a digit.
 fn lone(i: usize) -> u64
@@ -16,13 +16,12 @@ fn lone(i: usize) -> u64
     1u64 << i
 }
 
-// The word without digit i, which is set and then flipped: right whether or not the word had it.
+// The word without digit i, whether or not it had it.
 pub fn leave(w: u64, i: usize) -> u64
     requires { i < 64 }
     ensures { result ≡ without w i }
 {
-    let mask = lone(i);
-    (w | mask) ^ mask
+    w & !lone(i)
 }
 
 // The lowest group of a word that has one.

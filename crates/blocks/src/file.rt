@@ -5,9 +5,9 @@ ghost use Rattle.views.specs.Views.{Within};
 ghost use Rattle.blocks.specs.FileFaults.{opening_faults, layout_faults, block_faults};
 
 use crate::searches::{first_bad_check, first_bad_kind, first_bad_unused};
-use crate::tests::{bad_length, bad_range, blocks_fit, number_and_kind};
+use crate::tests::{bad_length, blocks_fit, number_and_kind};
 use layout::{Kind, size_in};
-use refusals::{refused, refused_whole};
+use refusals::{out_of_range, refused, refused_whole};
 use survey::answers::Refusal;
 
 // 2 to 4.
@@ -31,7 +31,7 @@ fn layout_faults(file: &[u8]) -> Result<(), Refusal>
     requires { Within file.now 0 }
     ensures { Answers (layout_faults file.now) (verdict_of result) }
 {
-    if bad_range(size_in(file)) {
+    if out_of_range(size_in(file)) {
         return Err(refused_whole(5));
     }
     if !blocks_fit(file) {

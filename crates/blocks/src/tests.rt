@@ -1,7 +1,7 @@
 // What is asked of a block beside its check, and of the file as a whole: a test for each.
 ghost use Rattle.std.specs.Prelude.{◌≡◌};
 ghost use Rattle.survey.specs.SurveyFile.{block_count, number_in, kind_in, kind_of, n_in, e_in, blocks_needed, UnusedAreZero};
-ghost use Rattle.survey.specs.Faults.{bad_length, bad_range};
+ghost use Rattle.survey.specs.Faults.{bad_length};
 ghost use Rattle.refusals.specs.Searches.{Tells};
 ghost use Rattle.views.specs.Views.{Within};
 ghost use Rattle.layout.specs.Kinds.{number_of};
@@ -25,14 +25,6 @@ pub fn bad_length(file: &[u8]) -> bool
     long == 0 || 0 < long % 512 || 10_752 < long
 }
 
-// 5: the header says more or fewer than a survey can have (Specification 2).
-// Kept: admission tests the same of a survey as lists; each is one line, and a function for both would be one more door with two numbers to lend.
-pub fn bad_range(size: Size) -> bool
-    ensures { Tells ((bad_range size.n size.e).at 0) result }
-{
-    size.n < 1 || 128 < size.n || 1_024 < size.e
-}
-
 // 6: as many blocks as n groups and e links have.
 pub fn blocks_fit(file: &[u8]) -> bool
     requires { Within file.now 0 }
@@ -42,7 +34,7 @@ pub fn blocks_fit(file: &[u8]) -> bool
 }
 
 // Whether the first two words of block b are its number and this kind.
-// Kept: that block b is there is a clause of each test, and no invariant of a struct of file and b: views::view has plain parameters, and each test would take it apart.
+// Kept: that block b is there is a clause of each test, and no invariant of a struct of file and b, for the reason that views::view::block_word gives.
 pub fn number_and_kind(file: &[u8], b: usize, kind: Kind) -> bool
     requires { Within file.now b }
     ensures { Tells ((number_in file.now b ≡ b) × (kind_in file.now b ≡ number_of kind)) result }

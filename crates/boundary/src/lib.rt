@@ -10,7 +10,8 @@ use survey::answers::{Place, Refusal, Size};
 
 // Specification 12.2: the sort of a place.
 // Kept: named functions, and no `impl From<..> for u64`. A place has two numbers, its sort and its own (refusals::place_number), and `from` names neither;
-// an answer has one, but only a small one (SmallRefusal and its like), and the trait's clause has no room for that `requires`.
+// an answer has one, but only a small one (SmallRefusal and its like), and the trait's clause has no room for that `requires`. Three matches below, since each
+// part's success has a number of its own, and that is all there is to each.
 fn sort_number(p: Place) -> u64
     ensures { (result ≡ sort_number p) × (result < 4) }
 {

@@ -8,10 +8,10 @@ ghost use Rattle.survey.specs.Answers.{verdict_of};
 ghost use Rattle.refusals.specs.Searches.{Tells};
 
 use admit::admit;
-use cycles::limits::{GROUPS, LINKS};
 use entries::{Entries, Lists, whole_entries};
 use refusals::refused_whole;
-use survey::answers::Refusal;
+use survey::answers::{Refusal, Size};
+use survey::limits::{GROUPS, LINKS};
 use survey::stands::Stand;
 
 // 1: a list has not room for as many entries as a survey can have. A mark is one byte, so a list of marks has as many entries as bytes.
@@ -40,5 +40,9 @@ pub fn admit_call(lists: Lists, marks: &[u8], amounts: &[u8]) -> Result<(), Refu
         bytes: lists.links,
         stand: Stand::Lent,
     };
-    admit(lists.n, lists.e, groups, links)
+    let size = Size {
+        n: lists.n,
+        e: lists.e,
+    };
+    admit(size, groups, links)
 }

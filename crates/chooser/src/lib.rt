@@ -11,8 +11,8 @@ ghost use Rattle.calls.specs.Calls.{AdmittedCall};
 use crate::rounds::Working;
 use calls::admit_call;
 use entries::Lists;
-use flow::sizes::{GROUPS, LINKS};
 use survey::answers::Refusal;
+use survey::limits::{GROUPS, LINKS};
 
 // The pick of an admitted survey, with its amounts. How many rounds.
 #[tactic(auto, using(crate::proofs::EndLaws::all_ask))]

@@ -7,7 +7,7 @@ ghost use Rattle.chooser.specs.Rounds.{AnyAbove, Listed, Round, AllAsk, Ended};
 use counts::{Dead, Live};
 use entries::Lists;
 use flow::heavy::heaviest;
-use flow::sizes::{GROUPS, LINKS};
+use survey::limits::{GROUPS, LINKS};
 use weights::{marked_sum, put_weights};
 
 // Whether any group's excess is above 0. What the heaviest set weighs is the excess that no group could send on, so this is whether it weighs

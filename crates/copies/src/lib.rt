@@ -24,7 +24,7 @@ fn put_pair(list: &mut [u8], k: usize, pair: Pair)
 }
 
 // The first count pairs of the blocks from block start on.
-// Kept: file and start are not an `Entries`, since of a slice in a struct the proof is not told that its bytes are below 256, and the bytes are what is copied.
+// Kept: file and start are not an `Entries`. That was tried: of a slice in a struct the proof is not told that its bytes are below 256, and bytes are what is copied.
 pub fn fill(list: &mut [u8], count: usize, file: &[u8], start: usize)
     requires { Fillable list.old count file.now start }
     ensures { Filled list.old list.new count file.now (in_blocks start) }

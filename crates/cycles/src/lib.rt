@@ -2,7 +2,6 @@
 // off the counts, and so on. Where all groups can be peeled there is no cycle, and where some are left, each has a link from one of them.
 #![tactic(auto)]
 
-pub mod limits;
 pub mod lists;
 mod peeling;
 mod tallies;
@@ -11,10 +10,10 @@ ghost use Rattle.survey.specs.Survey.{Cycle};
 ghost use Rattle.refusals.specs.Searches.{Tells};
 ghost use Rattle.cycles.specs.Lists.{LinksHold, links_in};
 
-use crate::limits::GROUPS;
 use crate::lists::LinkList;
 use crate::peeling::{Held, peel, stack, tally};
 use crate::tallies::Tally;
+use survey::limits::GROUPS;
 
 // In time in proportion to n + e, with no recursion, and with room for one small entry a group.
 pub fn has_cycle(list: LinkList) -> bool

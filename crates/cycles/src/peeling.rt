@@ -6,9 +6,9 @@ ghost use Rattle.cycles.specs.Lists.{LinksHold, links_hold_prop, links_in};
 ghost use Rattle.cycles.specs.Tallies.{Blank, Kept, count_of, first_of};
 ghost use Rattle.cycles.specs.Peeling.{Tallied, Stacked, Indexed, Peels, Walks, Walked, none_owed};
 
-use crate::limits::GROUPS;
 use crate::lists::LinkList;
 use crate::tallies::{Tally, lower, note, settle};
+use survey::limits::GROUPS;
 
 // A list that the test may lean on: its sizes are in range, its ends are groups, and its links ascend.
 // Kept: the working list goes beside it, and not into one struct with it, since each pass would then have to say that it leaves the list as it is.

@@ -3,7 +3,7 @@ ghost use Rattle.std.specs.Prelude.{◌+◌, ◌<◌};
 ghost use Rattle.survey.specs.Limits.{group_limit};
 ghost use Rattle.cycles.specs.Tallies.{tally_limit, count_of, first_of, Noted, Settled, Lowered, Kept};
 
-use crate::limits::GROUPS;
+use survey::limits::GROUPS;
 
 // How many links into the group are left, or, where none is, the group that waits under it on the stack; and the first link that starts at the group.
 // Kept: the stack's links are numbers, g + 1 for group g and 0 for none, and no Option: they stand where counts stood, in fixed memory of 4 bytes a group.

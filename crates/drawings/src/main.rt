@@ -8,6 +8,7 @@ use printing::{FILE_ROOM, TEXT_ROOM, print_pick};
 use refusals::place_number;
 use std::rt::Files;
 use std::{fs, io};
+use survey::limits::{GROUPS, LINKS};
 use views::sums::check_agrees;
 use views::view::block_check;
 
@@ -67,8 +68,8 @@ fn list_of<const N: usize>(numbers: &[u32]) -> [u8; N] {
 
 // The name of the case, and the chooser's answer.
 fn list_case(rt: &HostRuntime, name: &str, lists: Lists) -> io::Result<()> {
-    let mut marks = [0u8; 128];
-    let mut amounts = [0u8; 8_192];
+    let mut marks = [0u8; GROUPS];
+    let mut amounts = [0u8; 8 * LINKS];
     match choose(lists, &mut marks, &mut amounts) {
         Ok(rounds) => {
             let picked = marks.iter().filter(|mark| **mark == 1).count();
@@ -124,10 +125,10 @@ fn from_lists(rt: &HostRuntime) -> io::Result<()> {
 
 // The largest survey without links, all counts at their limit.
 fn largest_counts(rt: &HostRuntime) -> io::Result<()> {
-    let groups = list_of::<1_024>(&[1_000_000; 256]);
-    let links = [0u8; 8_192];
+    let groups = list_of::<1_024>(&[1_000_000; 2 * GROUPS]);
+    let links = [0u8; 8 * LINKS];
     let lists = Lists {
-        n: 128,
+        n: GROUPS,
         e: 0,
         groups: &groups,
         links: &links,

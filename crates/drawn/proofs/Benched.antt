@@ -13,7 +13,7 @@ use Rattle.survey.proofs.Reaching.{somewhere, any_link, via, has_cycle}
 use Rattle.survey.proofs.Deciding.{both, all_below}
 use Rattle.survey.proofs.AllSets.{find_from, find_set, any_set, every_set}
 use Rattle.survey.proofs.SetTests.{inside_test, inside_told, contains_test, closed_test, eligible_test, greatest_test, heaviest_test, heaviest_told}
-use Rattle.survey.proofs.ComputedVerdicts.{lowest_below, verdict_of, verdict_test}
+use Rattle.survey.proofs.ComputedVerdicts.{lowest_below, told_verdict, verdict_test}
 use Rattle.survey.proofs.ClaimTests.{survey_tests}
 use Rattle.survey.proofs.Drawings.{says_test, right, right_holds, drawings_hold}
 use Rattle.drawn.proofs.Calls.{group_bytes, link_bytes, Lends, zeros, some_call}
@@ -41,11 +41,11 @@ pub f7_lent : (marks amounts : List ℕ) → Lends f7 (group_bytes f7_groups ++ 
 f7_lent = some_call f7_groups f7_links
 
 pub f2_admitted : Admitted f2
-unfolding right says_test inside_test all_below lowest_below verdict_of verdict_test survey_tests somewhere any_link via has_cycle
+unfolding right says_test inside_test all_below lowest_below told_verdict verdict_test survey_tests somewhere any_link via has_cycle
 f2_admitted = right_holds (admits f2) refl
 
 pub f7_admitted : Admitted f7
-unfolding right says_test inside_test all_below lowest_below verdict_of verdict_test survey_tests somewhere any_link via has_cycle
+unfolding right says_test inside_test all_below lowest_below told_verdict verdict_test survey_tests somewhere any_link via has_cycle
 f7_admitted = right_holds (admits f7) refl
 
 -- a drawing for averages: 1:2, 2:3, 4:5; links (0,1) (0,2)
@@ -53,7 +53,7 @@ abbrev pub uneven : Survey
 uneven = drawn (counts 1 2 ∷ counts 2 3 ∷ counts 4 5 ∷ []) (link 0 1 ∷ link 0 2 ∷ [])
 
 pub uneven_admitted : Admitted uneven
-unfolding right says_test inside_test all_below lowest_below verdict_of verdict_test survey_tests somewhere any_link via has_cycle
+unfolding right says_test inside_test all_below lowest_below told_verdict verdict_test survey_tests somewhere any_link via has_cycle
 uneven_admitted = right_holds (admits uneven) refl
 
 -- F2: its pick is {1,4}.

@@ -17,7 +17,7 @@ use Rattle.survey.specs.Drawings.{counts, link, drawn, f2, f7}
 use Rattle.blocks.specs.FileFaults.{block_faults}
 use Rattle.survey.proofs.Deciding.{Decides, told_iff, both, either, denied, implied, less, at_most, equal, all_below, all_below_lem}
 use Rattle.survey.proofs.Verdicts.{fine_clear, clear_both}
-use Rattle.survey.proofs.ComputedVerdicts.{lowest_below, verdict_of, verdict_test, RowsTold, no_row, row, answers_told}
+use Rattle.survey.proofs.ComputedVerdicts.{lowest_below, told_verdict, verdict_test, RowsTold, no_row, row, answers_told}
 use Rattle.drawn.proofs.Calls.{pair, group_bytes, link_bytes, zeros, cut_off}
 use Rattle.drawn.proofs.Benched.{f2_groups, f2_links, f7_groups, f7_links, f2_admitted, f7_admitted}
 
@@ -64,7 +64,7 @@ blocks_told f =
     (row (λ b l. denied (unused_told f (n_in f) (e_in f) b)) no_row))))))
 
 unfoldable blocks_test : List ℕ → Bool
-blocks_test f = verdict_test (verdict_of (block_faults f) (block_tests f)) fine
+blocks_test f = verdict_test (told_verdict (block_faults f) (block_tests f)) fine
 
 blocks_clear : (f : List ℕ) → blocks_test f ≡ true → AllClear (block_faults f)
 unfolding blocks_test
@@ -151,7 +151,7 @@ f2_holds =
     }
 
 f2_blocks : AllClear (block_faults f2_file)
-unfolding blocks_test block_tests verdict_test verdict_of lowest_below all_below sums
+unfolding blocks_test block_tests verdict_test told_verdict lowest_below all_below sums
 f2_blocks = blocks_clear f2_file refl
 
 pub f2_file_lem : survey_in f2_file ≡ f2
@@ -171,7 +171,7 @@ f7_holds =
     }
 
 f7_blocks : AllClear (block_faults f7_file)
-unfolding blocks_test block_tests verdict_test verdict_of lowest_below all_below sums
+unfolding blocks_test block_tests verdict_test told_verdict lowest_below all_below sums
 f7_blocks = blocks_clear f7_file refl
 
 pub f7_file_lem : survey_in f7_file ≡ f7

@@ -82,7 +82,7 @@ pub struct Lists<'a> {
     pub links: &'a [u8],
 }
 
-// Kept: a method for each of the two lists, and the fact that an entry is there in each clause: it is of k, and no fact about the lists.
+// Kept: that an entry is there is a clause, and no fact that the type has: `Lists` is what a call lends, before anything of it is known to be there.
 impl<'a> Lists<'a> {
     pub fn group(self, g: usize) -> Group
         requires { EntryWithin self.groups.now lent g }

@@ -11,14 +11,14 @@ use Rattle.survey.proofs.GivenSurvey.{given_n, given_e, given_link}
 use Rattle.flow.specs.Links.{end_of, Given, bare}
 
 module _ (l : List ℕ) (k : ℕ) where
-  end_from : (link_at l lent k).from ≡ end_of l 0 k
+  pub end_from : (link_at l lent k).from ≡ end_of l 0 k
   unfolding end_of
   end_from = ap (word l) (place k)
     where
       place : (k : ℕ) → stands_at lent k ≡ entry_bytes * k + 0
       place k = omega arith
 
-  end_to : (link_at l lent k).to ≡ end_of l 4 k
+  pub end_to : (link_at l lent k).to ≡ end_of l 4 k
   unfolding end_of
   end_to = ap (word l) (place k)
     where

@@ -1,9 +1,10 @@
 // Chains: from a group one comes at once to the links that start in it, or that end in it, with no pass over all links. They are built once
 // and serve every wave. Those of both ends stand in one list: the heads, and then the nexts.
+// Kept: the four arrays of heads and nexts in one list, and e for "no link": fixed memory, one array on the stack, and no Option in the inner loop.
 ghost use Rattle.flow.specs.Chains.{Chainable, Chained};
 
 use crate::ends::end_in;
-use crate::sizes::{GROUPS, LINKS};
+use survey::limits::{GROUPS, LINKS};
 
 // From the last link down, so that each chain ascends: what was first before is next after this one. It begins with empty chains, which is e.
 pub fn chain(ends: &[u8], n: usize, e: usize, end: usize, chains: &mut [u16])

@@ -4,18 +4,21 @@
 // common to them, and what reads and what writes would be two closures for each.
 ghost use Rattle.flow.specs.Copies.{Copyable, Copied, Takable, Taken, Puttable, Put};
 
-use crate::ends::end_of;
-use entries::{amount_at, put_amount};
+use entries::{Entries, amount_at, put_amount};
+use survey::stands::Stand;
 
 pub fn copy_ends(e: usize, links: &[u8], ends: &mut [u8])
     requires { Copyable e links.now ends.old }
     ensures { Copied e links.now ends.old ends.new }
 {
+    let list = Entries {
+        bytes: links,
+        stand: Stand::Lent,
+    };
     for k in 0..e {
-        let p = end_of(links, k, 0);
-        let q = end_of(links, k, 4);
-        ends[2 * k] = p as u8;
-        ends[2 * k + 1] = q as u8;
+        let link = list.link(k);
+        ends[2 * k] = link.from as u8;
+        ends[2 * k + 1] = link.to as u8;
     }
 }
 

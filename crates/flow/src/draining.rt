@@ -3,8 +3,9 @@ ghost use Rattle.flow.specs.Drains.{Drainable, Drained};
 
 use crate::copies::{copy_ends, take_amounts};
 use crate::drains::Queue;
-use crate::sizes::{ENDS, GROUPS, LINKS, ROWS};
+use crate::sizes::{ENDS, ROWS};
 use crate::ways::find_ways;
+use survey::limits::{GROUPS, LINKS};
 
 // Marks the least set that holds every group with a lack and in which a group joins that could pay one in it: along each link from a group in
 // it, and back along each link to one that has an amount.

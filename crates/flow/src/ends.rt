@@ -1,18 +1,7 @@
-// The ends of the links, read where they were lent or in the working copy.
-// Kept: an end is a number (0 and 1, or 0 and 4), since it is an offset wherever it is used: with an enum each of these places would be a cast.
+// The ends of the links, read in the working copy.
+// Kept: an end is a number (0 or 1), since it is an offset wherever it is used: with an enum each of these places would be a cast.
 ghost use Rattle.std.specs.Prelude.{◌≡◌, ◌+◌, ◌*◌, ◌≤◌, length};
-ghost use Rattle.flow.specs.Links.{end_of};
 ghost use Rattle.flow.specs.Copies.{end_in};
-
-use words::word_at;
-
-// An end of link k: its from at 0, its to at 4.
-pub fn end_of(links: &[u8], k: usize, end: usize) -> usize
-    requires { (end ≤ 4) × (8 * k + 8 ≤ length links.now) }
-    ensures { result ≡ end_of links.now end k }
-{
-    word_at(links, 8 * k + end) as usize
-}
 
 // An end of link k in the copy: its from at 0, its to at 1.
 pub fn end_in(ends: &[u8], k: usize, end: usize) -> usize

@@ -3,8 +3,9 @@ ghost use Rattle.std.specs.Prelude.{◌-◌, ◌≤◌, ◌≡◌, length};
 ghost use Rattle.flow.specs.Heavy.{Halved, flipped, Flipped, Weighable, Heavy};
 
 use crate::copies::{copy_ends, put_amounts};
-use crate::sizes::{ENDS, LINKS};
+use crate::sizes::ENDS;
 use crate::waves::settle;
+use survey::limits::LINKS;
 
 // Each weight becomes its two halves, in place: with no amounts yet these are the halves of the balances.
 fn halve(n: usize, plus: &mut [u64], minus: &mut [u64])

@@ -17,6 +17,7 @@ fn takes(mark: u8, lack: u64, x: u64) -> u64
 }
 
 // Group p gets d: it loses lack first, and the rest is its excess.
+// Kept: with a branch. The saturating form, together with `self.count += 1` in the queue, made the waves about 6 % slower (662 µs against 625, the families of bench/).
 fn receive(p: usize, d: u64, excess: &mut [u64], lack: &mut [u64])
     requires { Receivable p d excess.old lack.old }
     ensures { Receives p d excess.old lack.old excess.new lack.new }
@@ -27,7 +28,7 @@ fn receive(p: usize, d: u64, excess: &mut [u64], lack: &mut [u64])
         return;
     }
     lack[p] = 0;
-    excess[p] = excess[p] + (d - short);
+    excess[p] += d - short;
 }
 
 impl Tide<'_> {
@@ -38,8 +39,7 @@ impl Tide<'_> {
         ensures ways { self.new.ways.now ≡ self.old.ways.now }
         ensures same { SameTide self.old self.new }
     {
-        let left = self.excess[g] - d;
-        self.excess[g] = left;
+        self.excess[g] -= d;
         receive(p, d, self.excess, self.lack);
         self.amounts[k] = amount;
     }

@@ -5,9 +5,9 @@ ghost use Rattle.flow.specs.Tides.{SameTide};
 ghost use Rattle.flow.specs.Waves.{Offerable, Offered, least_for, Spillable, Spilled};
 
 use crate::ends::end_in;
-use crate::sizes::{GROUPS, LINKS};
-use crate::tides::{Net, Tide};
+use crate::tides::{Channels, Tide};
 use crate::ways::note;
+use survey::limits::{GROUPS, LINKS};
 
 // Paying asks no amount of a link, giving back some.
 fn least_for(end: usize) -> u64
@@ -39,7 +39,7 @@ impl Tide<'_> {
 
     // Along the chain of g by one of its ends, until nothing is left: at 1 along the links to g, which it pays by; at 0 along those from g, by which
     // it gives back.
-    pub fn spill(&mut self, net: &Net, end: usize, g: usize, t: &[u8])
+    pub fn spill(&mut self, net: &Channels, end: usize, g: usize, t: &[u8])
         requires { Spillable net.now.n net.now.e end g net.now.ends.now
             self.old.amounts.now self.old.excess.now self.old.lack.now self.old.ways.now t.now }
         ensures spilled { Spilled net.now.n net.now.e net.now.e end g net.now.ends.now self.old.amounts.now self.old.excess.now self.old.lack.now self.old.ways.now t.now

@@ -6,7 +6,7 @@ ghost use Rattle.flow.specs.Sends.{Chart};
 // The copy of the links, which have no cycle and of which no two are the same, and the chains of both ends, which are an index of it. What a wave
 // reads of the survey, it reads here.
 #[derive(Drop)]
-pub struct Net<'a> {
+pub struct Channels<'a> {
     pub n: usize,
     pub e: usize,
     pub ends: &'a [u8],
@@ -18,6 +18,7 @@ pub struct Net<'a> {
 
 // The state, which is amounts, excess and lack, and the ways, which go by the amounts. The lists stand elsewhere, so each clause `same` says that
 // they are the ones that were lent.
+// Kept: excess and lack are two lists, since they are the lists plus and minus that `heaviest` is lent (its clause Heavy).
 #[derive(Drop)]
 pub struct Tide<'a> {
     pub amounts: &'a mut [u64],

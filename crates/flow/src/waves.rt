@@ -5,9 +5,10 @@ ghost use Rattle.flow.specs.Waves.{Apartable, SetApart, Turnable, Turned, Pourab
 
 use crate::chains::chain;
 use crate::drains::Queue;
-use crate::sizes::{CHAINS, GROUPS, ROWS};
-use crate::tides::{Net, Tide};
+use crate::sizes::{CHAINS, ROWS};
+use crate::tides::{Channels, Tide};
 use crate::ways::find_ways;
+use survey::limits::GROUPS;
 
 // The groups that began the wave are marked 3: each of them takes at most its lack.
 // Kept: marks are numbers, since they stand in the list of bytes that the caller lends (clauses of `heaviest` and `drained`).
@@ -15,16 +16,15 @@ fn set_apart(t: &mut [u8], order: &[u16], started: usize)
     requires { Apartable t.old order.now started }
     ensures { SetApart t.old order.now started t.new }
 {
-    for i in 0..started {
-        let g = order[i] as usize;
-        t[g] = 3;
+    for g in &order[..started] {
+        t[*g as usize] = 3;
     }
 }
 
 impl Tide<'_> {
     // The turn of group g: it gives back what it can through the links from it, and pays the rest through the links to it. Whether it had something
     // to send.
-    fn turn(&mut self, net: &Net, g: usize, t: &[u8]) -> bool
+    fn turn(&mut self, net: &Channels, g: usize, t: &[u8]) -> bool
         requires { Turnable net.now.n net.now.e g net.now.ends.now
             self.old.amounts.now self.old.excess.now self.old.lack.now self.old.ways.now t.now }
         ensures turned { Turned net.now.n net.now.e g net.now.ends.now self.old.amounts.now self.old.excess.now self.old.lack.now self.old.ways.now t.now
@@ -41,7 +41,15 @@ impl Tide<'_> {
 
     // Back through the order, to the groups that began it: those have a lack and nothing to send. A group that is passed is marked 2, so that those
     // marked 1 or 3 are still to come. Whether a group had something to send.
-    fn pour(&mut self, net: &Net, t: &mut [u8], order: &[u16], started: usize, count: usize) -> bool
+    // Kept: the places backwards, as a range: `order[started..count].iter().rev()` is no shorter, and its proof has to follow what the iterator has left.
+    fn pour(
+        &mut self,
+        net: &Channels,
+        t: &mut [u8],
+        order: &[u16],
+        started: usize,
+        count: usize,
+    ) -> bool
         requires { Pourable net.now.n net.now.e net.now.ends.now
             self.old.amounts.now self.old.excess.now self.old.lack.now self.old.ways.now t.old order.now started count }
         ensures poured { Poured net.now.n net.now.e net.now.ends.now self.old.amounts.now self.old.excess.now self.old.lack.now self.old.ways.now t.old order.now started count
@@ -58,7 +66,7 @@ impl Tide<'_> {
     }
 
     // One wave. Whether a group had something to send: where none had, the marks say which groups drain.
-    fn wave(&mut self, net: &Net, t: &mut [u8], order: &mut [u16]) -> bool
+    fn wave(&mut self, net: &Channels, t: &mut [u8], order: &mut [u16]) -> bool
         requires { Wavable net.now.n net.now.e net.now.ends.now
             self.old.amounts.now self.old.excess.now self.old.lack.now self.old.ways.now t.old order.old }
         ensures waved { WavedOnce net.now.n net.now.e net.now.ends.now self.old.amounts.now self.old.excess.now self.old.lack.now self.old.ways.now t.old order.old
@@ -71,6 +79,7 @@ impl Tide<'_> {
             order: &mut *order,
             count: 0,
         };
+        // Kept: lack and ways by names of their own: with `&*self.lack` in a call the check no longer knows afterwards what stands in it.
         let lack = &mut *self.lack;
         queue.begin(lack);
         let started = queue.count;
@@ -82,7 +91,7 @@ impl Tide<'_> {
     }
 
     // Wave after wave, until no group that drains has an excess.
-    fn waves(&mut self, net: &Net, t: &mut [u8])
+    fn waves(&mut self, net: &Channels, t: &mut [u8])
         requires { WavesAsk net.now.n net.now.e net.now.ends.now
             self.old.amounts.now self.old.excess.now self.old.lack.now self.old.ways.now t.old }
         ensures waved { WavedAll net.now.n net.now.e net.now.ends.now self.old.amounts.now self.old.excess.now self.old.lack.now self.old.ways.now t.old
@@ -113,7 +122,7 @@ pub fn settle(
     chain(ends, n, e, 1, &mut chains);
     let mut ways = [0u64; ROWS];
     find_ways(n, e, ends, amounts, &mut ways);
-    let net = Net {
+    let net = Channels {
         n,
         e,
         ends,

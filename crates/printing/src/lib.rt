@@ -16,6 +16,7 @@ use chooser::choose;
 use counts::{Dead, Live};
 use entries::Lists;
 use reader::read;
+use survey::limits::{GROUPS, LINKS};
 use weights::marked_sum;
 
 // A list with so many bytes has room for the largest file and one byte more, so that a longer one is seen to be longer ..
@@ -51,8 +52,8 @@ fn put_pick(lists: Lists, page: &mut Page)
     requires { ReadSurvey lists.n lists.e lists.groups.now lists.links.now page.old }
     ensures { PutPick lists.entry.n lists.entry.e lists.entry.groups.now lists.entry.links.now page.old page.new }
 {
-    let mut marks = [0u8; 128];
-    let mut amounts = [0u8; 8_192];
+    let mut marks = [0u8; GROUPS];
+    let mut amounts = [0u8; 8 * LINKS];
     match choose(lists, &mut marks, &mut amounts) {
         Err(r) => page.put_refused_line(r),
         Ok(rounds) => put_marked(lists, &marks, rounds, page),
@@ -65,8 +66,8 @@ fn put_file(file: &[u8], page: &mut Page)
     ensures same { page.new.out.ghost_name ≡ page.old.out.ghost_name }
     ensures put { PutFile file.now page.old page.new }
 {
-    let mut groups = [0u8; 1_024];
-    let mut links = [0u8; 8_192];
+    let mut groups = [0u8; 8 * GROUPS];
+    let mut links = [0u8; 8 * LINKS];
     match read(file, &mut groups, &mut links) {
         Err(r) => page.put_refused_line(r),
         Ok(size) => {

@@ -16,18 +16,19 @@ use entries::{Entries, whole_entries};
 use layout::{first_link_block, size_in};
 use refusals::refused_whole;
 use survey::answers::{Refusal, Size};
+use survey::limits::{GROUPS, LINKS};
 use survey::stands::Stand;
 
 // The groups stand in the blocks from this one on, after the header.
 const GROUP_BLOCK: usize = 1;
 
 // 1: a list has room for fewer than 128 groups or 1,024 links (Specification 11).
-// Kept: calls has the test of four lists, and this is of two: shared, either would be handed lists that it has not.
+// Kept: calls tests these two lists and two more, by one row of the table for all four (`OneShort` of `call_lists`): each test is one line, and is proved of its row.
 #[tactic(auto, unfolding(survey::specs::Faults::OneShort))]
 fn lists_short(groups: &[u8], links: &[u8]) -> bool
     ensures { Tells (ListsShort groups.now links.now) result }
 {
-    whole_entries(groups) < 128 || whole_entries(links) < 1_024
+    whole_entries(groups) < GROUPS || whole_entries(links) < LINKS
 }
 
 // 2 to 12: the file's blocks, and then the survey in them, where it stands.
@@ -44,7 +45,7 @@ fn faults_in(file: &[u8]) -> Result<(), Refusal>
         bytes: file,
         stand: Stand::Blocks(first_link_block(size.n)),
     };
-    admit(size.n, size.e, groups, links)
+    admit(size, groups, links)
 }
 
 pub fn read(file: &[u8], groups: &mut [u8], links: &mut [u8]) -> Result<Size, Refusal>

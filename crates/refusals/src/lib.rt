@@ -1,12 +1,15 @@
-// Refusals: the struct with its place, made for each number of the table, and what a search for a fault finds.
+// Refusals, made for each number of the table with the place that it has, and the one test for a fault that a file and lists share.
 #![tactic(auto)]
 
 ghost use Rattle.std.specs.Prelude.{◌≡◌};
 ghost use Rattle.survey.specs.Refusals.{place_of};
+ghost use Rattle.survey.specs.Faults.{bad_range};
 ghost use Rattle.survey.specs.Answers.{place_number};
 ghost use Rattle.refusals.specs.Refused.{refusal_at, refusal_whole};
+ghost use Rattle.refusals.specs.Searches.{Tells};
 
-use survey::answers::{Place, Refusal};
+use survey::answers::{Place, Refusal, Size};
+use survey::limits::{GROUPS, LINKS};
 
 // The table's last column: the sort of place that a fault of this number has, at the block, group or link k.
 // Kept: a refusal's number is a number: docs/FORMS.md asks for a match over ranges of them, and this function and the two below answer for every number.
@@ -50,4 +53,11 @@ pub fn place_number(p: Place) -> usize
         Place::Group(k) => k,
         Place::Link(k) => k,
     }
+}
+
+// 5: fewer or more groups, or more links, than a survey can have, whether a header says so or a call.
+pub fn out_of_range(size: Size) -> bool
+    ensures { Tells ((bad_range size.n size.e).at 0) result }
+{
+    size.n < 1 || GROUPS < size.n || LINKS < size.e
 }

@@ -48,10 +48,10 @@ verdict_at f (some k) later = refused (refusal f k)
 verdict_at f none later = later
 
 -- of the faults, each with its test
-unfoldable pub verdict_of : List Fault → List (ℕ → Bool) → Verdict
-verdict_of [] ts = fine
-verdict_of (f ∷ fs) [] = fine
-verdict_of (f ∷ fs) (t ∷ ts) = let later = verdict_of fs ts in verdict_at f (lowest_below f.places t) later
+unfoldable pub told_verdict : List Fault → List (ℕ → Bool) → Verdict
+told_verdict [] ts = fine
+told_verdict (f ∷ fs) [] = fine
+told_verdict (f ∷ fs) (t ∷ ts) = let later = told_verdict fs ts in verdict_at f (lowest_below f.places t) later
 
 -- Each test decides, at each place, whether that place is at fault.
 pub data RowsTold : List Fault → List (ℕ → Bool) → Type 1 where
@@ -63,17 +63,17 @@ pub told_append : {fs gs : List Fault} {ts us : List (ℕ → Bool)} → RowsTol
 told_append no_row y = y
 told_append (row h x) y = row h (told_append x y)
 
-verdict_first : {fs : List Fault} {ts : List (ℕ → Bool)} → RowsTold fs ts → First fs (verdict_of fs ts)
-unfolding First verdict_of
+verdict_first : {fs : List Fault} {ts : List (ℕ → Bool)} → RowsTold fs ts → First fs (told_verdict fs ts)
+unfolding First told_verdict
 verdict_first no_row = refl
 verdict_first (row {f = f} {t = t} {fs = fs} {ts = ts} h r) = go (looked f.places t) (verdict_first r)
   where
-    go : {o : Option ℕ} → Looked f.places t o → First fs (verdict_of fs ts) → First (f ∷ fs) (verdict_at f o (verdict_of fs ts))
+    go : {o : Option ℕ} → Looked f.places t o → First fs (told_verdict fs ts) → First (f ∷ fs) (verdict_at f o (told_verdict fs ts))
     go (lowest {k = k} l e b) later =
         inl (record { lowest_place = k; lowest = record { below = l; fault = (h k l).so e; first = λ j m. (h j (omega arith)).not_so (b j m) }; is = refl })
     go (nowhere b) later = inr (record { none = λ k l. (h k l).not_so (b k l) }, later)
 
-pub verdict_answers : {fs : List Fault} {ts : List (ℕ → Bool)} → RowsTold fs ts → Answers fs (verdict_of fs ts)
+pub verdict_answers : {fs : List Fault} {ts : List (ℕ → Bool)} → RowsTold fs ts → Answers fs (told_verdict fs ts)
 verdict_answers x = record { first = verdict_first x }
 
 -- ---- two verdicts
@@ -116,6 +116,6 @@ verdict_told (refused r) (refused q) =
     (both (equal r.number q.number) (λ z. place_told r.place q.place))
 
 -- A verdict is the table's answer exactly when it is the computed one.
-pub answers_told : {fs : List Fault} {ts : List (ℕ → Bool)} → RowsTold fs ts → (v : Verdict) → Decides (Answers fs v) (verdict_test (verdict_of fs ts) v)
+pub answers_told : {fs : List Fault} {ts : List (ℕ → Bool)} → RowsTold fs ts → (v : Verdict) → Decides (Answers fs v) (verdict_test (told_verdict fs ts) v)
 answers_told {fs} {ts} x v =
-    told_iff (λ e. rw (← e) (verdict_answers x)) (λ a. answers_one fs (verdict_answers x) a) (verdict_told (verdict_of fs ts) v)
+    told_iff (λ e. rw (← e) (verdict_answers x)) (λ a. answers_one fs (verdict_answers x) a) (verdict_told (told_verdict fs ts) v)

@@ -19,7 +19,7 @@ use Rattle.survey.proofs.Deciding.{Decides, told_yes, told_no, told_iff, both, e
 use Rattle.survey.proofs.AllSets.{find_from, find_set, any_set, every_set, every_set_lem}
 use Rattle.survey.proofs.SetTests.{inside_test, inside_told, contains_test, same_test, same_told, closed_test, closed_told, eligible_test}
 use Rattle.survey.proofs.SetTests.{candidate_test, best_test, pick_test, pick_told, greatest_test, heaviest_test, rounds_test, rounds_told}
-use Rattle.survey.proofs.ComputedVerdicts.{lowest_below, verdict_of, told_append, verdict_test, answers_told}
+use Rattle.survey.proofs.ComputedVerdicts.{lowest_below, told_verdict, told_append, verdict_test, answers_told}
 use Rattle.survey.proofs.ClaimTests.{settled_test, largest_set, survey_tests, survey_rows_told, claim_tests, claim_rows_told}
 
 -- ---- lists
@@ -77,12 +77,12 @@ abbrev pub Fit : Drawing → Type 0
 Fit d = Inside (survey_drawn d)
 
 unfoldable pub says_test : Drawing → Bool
-says_test (admits s) = verdict_test (verdict_of (list_faults s) (survey_tests s)) fine
+says_test (admits s) = verdict_test (told_verdict (list_faults s) (survey_tests s)) fine
 says_test (picks s groups) = pick_test s (set_of groups)
 says_test (sums s groups dead live) = eqb (D s (set_of groups)) dead && eqb (L s (set_of groups)) live
 says_test (rounds s k groups) = rounds_test s k all_groups (set_of groups)
 says_test (claim s marks amounts v) =
-    verdict_test (verdict_of (list_faults s ++ claim_faults s marks (amounts_in amounts)) (survey_tests s ++ claim_tests s marks (amounts_in amounts))) v
+    verdict_test (told_verdict (list_faults s ++ claim_faults s marks (amounts_in amounts)) (survey_tests s ++ claim_tests s marks (amounts_in amounts))) v
 
 pub says_told : (d : Drawing) → Fit d → Decides (Holds d) (says_test d)
 unfolding says_test
@@ -119,7 +119,7 @@ all_right_lem ds h = all_map (λ d (z : Fit d × Holds d). z.1) ds ((all_told ri
 drawings_right : all_right drawings ≡ true
 unfolding all_right all_test right says_test inside_test contains_test same_test closed_test eligible_test
     candidate_test best_test pick_test greatest_test heaviest_test rounds_test
-    lowest_below verdict_of verdict_test settled_test largest_set survey_tests claim_tests
+    lowest_below told_verdict verdict_test settled_test largest_set survey_tests claim_tests
     somewhere any_link via has_cycle gets pays sum total all_below find_from find_set any_set every_set
 drawings_right = refl
 

@@ -20,7 +20,7 @@ use Rattle.survey.proofs.Deciding.{both, all_below}
 use Rattle.survey.proofs.AllSets.{find_from, find_set, any_set}
 use Rattle.survey.proofs.SetTests.{inside_test, inside_told, closed_test, eligible_test}
 use Rattle.survey.proofs.Verdicts.{answers_one, past}
-use Rattle.survey.proofs.ComputedVerdicts.{lowest_below, verdict_of as first_told, verdict_test, told_append, answers_told}
+use Rattle.survey.proofs.ComputedVerdicts.{lowest_below, told_verdict, verdict_test, told_append, answers_told}
 use Rattle.survey.proofs.ClaimTests.{settled_test, largest_set, survey_tests, survey_rows_told, claim_tests, claim_rows_told}
 use Rattle.drawn.proofs.Calls.{Lends, bytes_of}
 
@@ -28,7 +28,7 @@ use Rattle.drawn.proofs.Calls.{Lends, bytes_of}
 unfoldable judged_test : Survey → List ℕ → List ℕ → Verdict → Bool
 judged_test s marks amounts v =
     inside_test s
-    && verdict_test (first_told (list_faults s ++ claim_faults s marks (amounts_of amounts)) (survey_tests s ++ claim_tests s marks (amounts_of amounts))) v
+    && verdict_test (told_verdict (list_faults s ++ claim_faults s marks (amounts_of amounts)) (survey_tests s ++ claim_tests s marks (amounts_of amounts))) v
 
 judged : (s : Survey) (marks amounts : List ℕ) (v : Verdict) → judged_test s marks amounts v ≡ true → Answers (list_faults s ++ claim_faults s marks (amounts_of amounts)) v
 unfolding judged_test
@@ -60,7 +60,7 @@ amount_bytes a = bytes_of (λ (x : ℕ). x) (λ (x : ℕ). 0) a
 
 f2_judged : (markTail amountTail : List ℕ) → Answers (list_faults f2 ++ claim_faults f2 (0 ∷ 1 ∷ 0 ∷ 0 ∷ 1 ∷ markTail)
     (amounts_of (amount_bytes (0 ∷ 0 ∷ 0 ∷ 18 ∷ []) ++ amountTail))) fine
-unfolding judged_test inside_test closed_test eligible_test lowest_below first_told verdict_test settled_test largest_set survey_tests claim_tests
+unfolding judged_test inside_test closed_test eligible_test lowest_below told_verdict verdict_test settled_test largest_set survey_tests claim_tests
     somewhere any_link via has_cycle gets pays sum total all_below find_from find_set any_set
 f2_judged markTail amountTail = judged f2 (0 ∷ 1 ∷ 0 ∷ 0 ∷ 1 ∷ markTail) (amount_bytes (0 ∷ 0 ∷ 0 ∷ 18 ∷ []) ++ amountTail) fine refl
 
@@ -81,7 +81,7 @@ always_no c x = cc (f2_accepted c x)
 -- ---- on the two groups 1:1
 
 two_judged : (markTail amounts : List ℕ) → Answers (list_faults two_alike ++ claim_faults two_alike (1 ∷ 0 ∷ markTail) (amounts_of amounts)) (refused_at 18 (Group 1))
-unfolding judged_test inside_test closed_test eligible_test lowest_below first_told verdict_test settled_test largest_set survey_tests claim_tests
+unfolding judged_test inside_test closed_test eligible_test lowest_below told_verdict verdict_test settled_test largest_set survey_tests claim_tests
     somewhere any_link via has_cycle gets pays sum total all_below find_from find_set any_set
 two_judged markTail amounts = judged two_alike (1 ∷ 0 ∷ markTail) amounts (refused_at 18 (Group 1)) refl
 

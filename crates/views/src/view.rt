@@ -1,5 +1,5 @@
 // The view of a block (Specification 9): the block's bytes, where they were lent, and its number. The functions over it are few and thin, each over one on a
-// slice. All other code reads a file by `block_word`, `block_check` and `block_numbered`, whose parameters are plain, entries too (`entries::pair_at`): no
+// slice. All other code reads a file by `block_word`, `block_check` and `block_numbered`, whose parameters are plain, entries too (`Entries::pair`): no
 // word of a file is read past the view.
 ghost use Rattle.std.specs.Prelude.{◌≡◌, ◌+◌, ◌*◌, ◌<◌, ◌≤◌, length, ◌==◌};
 ghost use Rattle.survey.specs.Limits.{block_bytes, content_words};
@@ -91,7 +91,8 @@ fn says_number(bytes: &[u8], number: usize) -> bool
 }
 
 // Word w of block b, through its view.
-// Kept: that block b is there is a clause, here and below, and in no type: docs/FORMS.md asks for plain parameters above the view.
+// Kept: a file and a number, here and below, and that the block is there is a clause: what is promised is a word of the file, and with a view in their hands
+// those who ask would first have to say which block of which file it shows.
 #[tactic(auto, using(crate::proofs::ViewLaws::viewed_word))]
 pub fn block_word(file: &[u8], b: usize, w: usize) -> u32
     requires { Within file.now b × (w < content_words) }
@@ -101,7 +102,7 @@ pub fn block_word(file: &[u8], b: usize, w: usize) -> u32
 }
 
 // Check word 0 or 1 of block b, through its view.
-// Kept: `which` is a number and no enum, since the clauses of this function count with it.
+// Kept: `which` is a number and no enum: this function promises word 126 + which, and its clause counts with it.
 #[tactic(auto, using(crate::proofs::ViewLaws::viewed_word))]
 pub fn block_check(file: &[u8], b: usize, which: usize) -> u32
     requires { Within file.now b × (which < 2) }

@@ -25,7 +25,7 @@ pub fn marked_sum<C: Count>(lists: Lists, marks: &[u8]) -> C
 }
 
 // The weight of each group, its two halves apart: plus[g] is dead·L and minus[g] is cost·D, where d and l are the sums of the set that gives the weights.
-// Kept: two lists and not one of weights, since `flow::heavy::heaviest` takes the two halves as two lists.
+// Kept: two lists and not one of weights: `flow::heavy::heaviest` promises the two halves in two lists (`Heavy`), and pairs would be taken apart for it.
 pub fn put_weights(lists: Lists, d: Dead, l: Live, plus: &mut [u64], minus: &mut [u64])
     requires { Puttable lists.n lists.groups.now d.0 l.0 plus.old minus.old }
     ensures { WeightsPut lists.entry.n lists.entry.groups.now d.0 l.0 plus.old minus.old plus.new minus.new }

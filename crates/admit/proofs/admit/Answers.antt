@@ -28,7 +28,7 @@ pub returns-in_err-admit_links : goal.returns-in_err-admit_links
 unfolding survey_at link_in group_in
 returns-in_err-admit_links c =
     let a = c.args in
-    let s = survey_at a.n a.e a.groups.bytes.now a.groups.stand a.links.bytes.now a.links.stand in
+    let s = survey_at a.size.n a.size.e a.groups.bytes.now a.groups.stand a.links.bytes.now a.links.stand in
     let stopped = early (link_faults s) (no_dead s ∷ []) (by_links c.in_err-admit_links.ensures) in
     passed_on _ c.from_residual.ensures.1 (past (whole_clear c.if-out_of_range.ensures) (past c.in_default.ensures stopped))
 

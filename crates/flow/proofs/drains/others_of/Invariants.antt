@@ -1,6 +1,6 @@
--- `flow::drains::others_of` meets its contract. The invariant: the groups before place i of the order are taken out. Assumes nothing.
+-- `flow::drains::others_of` meets its contract. The invariant: the groups before the place of g in the order are taken out. Assumes nothing.
 use Rattle.flow.specs.Drains.{OthersOf}
 use Rattle.flow.proofs.drains.others_of.Given as goal
 
-abbrev pub invariant-loop-i : goal.invariant-loop-i
-invariant-loop-i l = OthersOf l.order l.i l.initial.others l.others
+abbrev pub invariant-loop-g : goal.invariant-loop-g
+invariant-loop-g l = OthersOf l.order l.g-index l.initial.others l.others
