@@ -63,10 +63,11 @@ impl Balances {
         (0..n).find(|g| self.debit[*g] < self.credit[*g])
     }
 
-    // Where no balance is above 0, each is what it lacks: the debit becomes that.
+    // Where no balance is above 0, each is what it lacks: the debit becomes that, and the credit stays.
     pub fn put_lacks(&mut self, n: usize)
         requires { LacksAsk n self.old.credit self.old.debit }
-        ensures { PutFirst n (λ g. get_or self.old.debit g 0 - get_or self.old.credit g 0) self.old.debit self.new.debit }
+        ensures lacks { PutFirst n (λ g. get_or self.old.debit g 0 - get_or self.old.credit g 0) self.old.debit self.new.debit }
+        ensures credit { self.new.credit ≡ self.old.credit }
     {
         for g in 0..n {
             self.debit[g] -= self.credit[g];

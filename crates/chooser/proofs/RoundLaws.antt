@@ -117,10 +117,21 @@ module _ {n e d l : ℕ} {groups links : List ℕ} (current : List ℕ) {plus₀
         none_zero x.sound.inside (weights (survey_of n e groups links) (marked_set current)) (marked_set current') proves.drains proves.dry
         (λ g l. let none : 0 < get_or plus' g 0 → ⊥ = λ p. d (record { group = g; below = l; above = p }) in omega (arith, proves.balanced.above g l))
 
-    pub round_law : (more : Bool) → Tells (AnyAbove n plus') more → Round n e groups links current more current' amounts'
+    pub round_law : (more : Bool) → Tells (AnyAbove n plus') more → Round n e groups links current amounts more current' amounts'
     round_law more t =
         record {
-          worked = record { small = h.small; bits = h.bits };
+          worked =
+              record {
+                small = h.small;
+                bits = h.bits;
+                kept =
+                    record {
+                      current_rest = h.marks_rest;
+                      amounts_rest = h.amounts_rest;
+                      current_long = h.marks_long;
+                      amounts_long = h.amounts_long;
+                    };
+              };
           round = record {
             heaviest = proves.heaviest;
             drains = proves.drains;

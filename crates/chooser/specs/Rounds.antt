@@ -30,10 +30,18 @@ pub record AllAsk (n e : ℕ) (groups links current : List ℕ) : Type 0 where
 
 -- ---- what they promise
 
+-- what lies past the groups and the links stays as it was
+pub record Kept (n e : ℕ) (current amounts current' amounts' : List ℕ) : Type 0 where
+  pub current_rest : (g : ℕ) → n ≤ g → get_or current' g 0 ≡ get_or current g 0
+  pub amounts_rest : (i : ℕ) → entry_bytes * e ≤ i → get_or amounts' i 0 ≡ get_or amounts i 0
+  pub current_long : length current' ≡ length current
+  pub amounts_long : length amounts' ≡ length amounts
+
 -- marks that are 0 or 1, and amounts within their limit
-pub record Worked (n e : ℕ) (marks amounts : List ℕ) : Type 0 where
-  pub small : (k : ℕ) → k < e → amounts_of amounts k ≤ amount_limit
-  pub bits : (g : ℕ) → g < n → get_or marks g 0 ≤ 1
+pub record Worked (n e : ℕ) (current amounts current' amounts' : List ℕ) : Type 0 where
+  pub small : (k : ℕ) → k < e → amounts_of amounts' k ≤ amount_limit
+  pub bits : (g : ℕ) → g < n → get_or current' g 0 ≤ 1
+  pub kept : Kept n e current amounts current' amounts'
 
 -- One round of the survey s: its set is the heaviest, with the amounts that prove it; whether it weighs more than 0 is told.
 pub record RoundOf (s : Survey) (current : List ℕ) (more : Bool) (current' amounts' : List ℕ) : Type 0 where
@@ -45,12 +53,12 @@ pub record RoundOf (s : Survey) (current : List ℕ) (more : Bool) (current' amo
   pub further : more ≡ true → WeighsZero s (weights s (marked_set current)) (marked_set current') → ⊥
   pub last : more ≡ false → WeighsZero s (weights s (marked_set current)) (marked_set current')
 
-pub record Round (n e : ℕ) (groups links current : List ℕ) (more : Bool) (current' amounts' : List ℕ) : Type 0 where
-  pub worked : Worked n e current' amounts'
+pub record Round (n e : ℕ) (groups links current amounts : List ℕ) (more : Bool) (current' amounts' : List ℕ) : Type 0 where
+  pub worked : Worked n e current amounts current' amounts'
   pub round : RoundOf (survey_of n e groups links) current more current' amounts'
 
 -- r rounds from all groups on, and the set that they end with, whose amounts the balance rule accepts
-pub record Ended (n e : ℕ) (groups links : List ℕ) (r : ℕ) (marks amounts : List ℕ) : Type 0 where
-  pub worked : Worked n e marks amounts
-  pub counted : RoundsOf (survey_of n e groups links) r (marked_set marks)
-  pub accepted : Accepted (survey_of n e groups links) (marked_set marks) (amounts_of amounts)
+pub record Ended (n e : ℕ) (groups links current amounts : List ℕ) (r : ℕ) (current' amounts' : List ℕ) : Type 0 where
+  pub worked : Worked n e current amounts current' amounts'
+  pub counted : RoundsOf (survey_of n e groups links) r (marked_set current')
+  pub accepted : Accepted (survey_of n e groups links) (marked_set current') (amounts_of amounts')

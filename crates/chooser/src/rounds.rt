@@ -31,7 +31,8 @@ impl Working {
     #[tactic(auto, using(crate::proofs::RoundLaws::round_steps))]
     fn round(&mut self, lists: Lists) -> bool
         requires { Listed lists.n lists.e lists.groups.now lists.links.now }
-        ensures { Round lists.entry.n lists.entry.e lists.entry.groups.now lists.entry.links.now self.old.marks result self.new.marks self.new.amounts }
+        ensures { Round lists.entry.n lists.entry.e lists.entry.groups.now lists.entry.links.now self.old.marks self.old.amounts result
+            self.new.marks self.new.amounts }
     {
         let d = marked_sum::<Dead>(lists, &self.marks);
         let l = marked_sum::<Live>(lists, &self.marks);
@@ -53,7 +54,8 @@ impl Working {
     // Round after round, from all groups on. How many there were, the last among them.
     pub fn rounds(&mut self, lists: Lists) -> u64
         requires { AllAsk lists.n lists.e lists.groups.now lists.links.now self.old.marks }
-        ensures { Ended lists.entry.n lists.entry.e lists.entry.groups.now lists.entry.links.now result self.new.marks self.new.amounts }
+        ensures { Ended lists.entry.n lists.entry.e lists.entry.groups.now lists.entry.links.now self.old.marks self.old.amounts result
+            self.new.marks self.new.amounts }
     {
         let mut further = 0;
         while self.round(lists) {

@@ -1,6 +1,8 @@
 // The cases of Specification 15.3, which are run and not proved: one printed line for each. Some are files of data/, some lists.
 #![tactic(auto)]
 
+ghost use Rattle.std.specs.Prelude.{◌≤◌, length};
+
 use chooser::choose;
 use entries::Lists;
 use input::read_full;
@@ -15,7 +17,9 @@ use views::view::block_check;
 // ---- cases that are files, opened by name and read as the pick program reads its input
 
 // The bytes of a file, as many as there is room for. A file that is not there has none.
-fn load<'a>(rt: &HostRuntime, path: &str, room: &'a mut [u8]) -> &'a [u8] {
+fn load<'a>(rt: &HostRuntime, path: &str, room: &'a mut [u8]) -> &'a [u8]
+    ensures { length result.now ≤ length room.old }
+{
     let n = match fs::open(rt, path) {
         Ok(mut opened) => read_full(&mut opened, room),
         Err(_) => 0,

@@ -8,6 +8,7 @@ use lib.ListN.{length, get_or, set, length-set}
 use lib.Seq.{get_or-set_same, get_or-set_other}
 use lib.Dec.{eqb}
 use borrow.Author.Tests.{eqb-true, eqb-false, ne_eqb}
+use Rattle.survey.specs.Sets.{only}
 use Rattle.survey.proofs.SumOrder.{sum_lt}
 use Rattle.flow.specs.Copies.{copied, flowing}
 use Rattle.flow.specs.Ways.{Way, pays, gives_back}
@@ -55,6 +56,10 @@ or_true : (r : Bool) → (r || true) ≡ true
 or_true true = refl
 or_true false = refl
 
+only_one : (t : Bool) → only t 1 ≤ 1
+only_one true = omega arith
+only_one false = omega arith
+
 -- How far it went: nobody has sent yet; or a lack has fallen; or no lack has changed, and a group that is still to come has an excess.
 pub data Went (n : ℕ) (amounts₀ ex₀ la₀ amounts ex la order : List ℕ) (count i : ℕ) (r : Bool) : Type 0 where
   idle : r ≡ false → amounts ≡ amounts₀ → ex ≡ ex₀ → la ≡ la₀ → ((j : ℕ) → i ≤ j → j < count → get_or ex₀ (get_or order j 0) 0 ≡ 0)
@@ -62,9 +67,10 @@ pub data Went (n : ℕ) (amounts₀ ex₀ la₀ amounts ex la order : List ℕ) 
   fell : r ≡ true → lacks n la < lacks n la₀ → Went n amounts₀ ex₀ la₀ amounts ex la order count i r
   level : r ≡ true → ((h : ℕ) → get_or la h 0 ≡ get_or la₀ h 0) → (j : ℕ) → j < i → 0 < get_or ex (get_or order j 0) 0 → Went n amounts₀ ex₀ la₀ amounts ex la order count i r
 
+-- From place i on all have had their turn, r is whether one had something to send, and no more had than places are passed.
 pub record Pouring (n e : ℕ) (ends amounts₀ ex₀ la₀ ways₀ t₀ order : List ℕ) (started count : ℕ) (amounts ex la ways t : List ℕ) (r : Bool) (i : ℕ) : Type 0 where
   pub from : started ≤ i
-  pub within : i ≤ count
+  pub within : only r 1 + i ≤ count
   pub ran : Ran n e ends amounts₀ ex₀ la₀ ways₀ amounts ex la ways
   pub hops : (j : ℕ) → started ≤ j → j < i → Hop (copied n e ends) (flowing amounts) order j
   pub remarked : Remarked n t₀ t
@@ -167,7 +173,7 @@ module _ {n e started count : ℕ} {ends amounts₀ ex₀ la₀ ways₀ t₀ ord
     pour_on x =
         record {
           from = on;
-          within = omega (arith, w.within);
+          within = at_most x;
           ran = ran_on w.ran (turned_ran x);
           hops = hops x;
           remarked = passed_remarked t (get_or order i 0) (p.group i within) room (w.marked i (omega arith)) w.remarked;
@@ -177,6 +183,10 @@ module _ {n e started count : ℕ} {ends amounts₀ ex₀ la₀ ways₀ t₀ ord
           went = went_after x;
         }
       where
+        at_most : {amounts' ex' la' ways' : List ℕ} {r' : Bool} → Turned n e (get_or order i 0) ends amounts ex la ways (set t (get_or order i 0) 2) amounts' ex' la' ways' r'
+            → only (r || r') 1 + i ≤ count
+        at_most {r' = r'} y = omega (arith, within, only_one (r || r'))
+
         hops :
             {amounts' ex' la' ways' : List ℕ} {r' : Bool} → Turned n e (get_or order i 0) ends amounts ex la ways (set t (get_or order i 0) 2) amounts' ex' la' ways' r' → (j : ℕ)
             → started ≤ j → j < i

@@ -8,7 +8,7 @@ mod drains;
 mod ends;
 pub mod heavy;
 mod sends;
-mod sizes;
+pub mod sizes;
 mod spills;
 mod tides;
 mod waves;

@@ -9,9 +9,9 @@ ghost use Rattle.views.specs.Sums.{sums_of};
 use crate::view::{block_check, block_word};
 
 #[derive(Clone, Copy)]
-struct Sums {
-    a: u32,
-    b: u32,
+pub struct Sums {
+    pub a: u32,
+    pub b: u32,
 }
 
 // One word further: the word goes into a, and a as it is then into b.

@@ -10,10 +10,10 @@ ghost use Rattle.views.specs.Views.{Within, block_of};
 use words::word_at;
 
 #[derive(Clone, Copy)]
-struct Block<'a> {
-    bytes: &'a [u8],
-    number: usize,
-    ghost whole: { length bytes.now ≡ block_bytes },
+pub struct Block<'a> {
+    pub bytes: &'a [u8],
+    pub number: usize,
+    pub ghost whole: { length bytes.now ≡ block_bytes },
 }
 
 impl<'a> Block<'a> {
