@@ -30,6 +30,9 @@ pub trait Count: Copy {
     // Law: no group whose counts are within their limit has more of it than that limit.
     ghost small: { (g : survey.Group) → CountsFit g → held g ≤ count_limit };
 
+    // Law: a group with nothing in it has none of it.
+    ghost none: { held (record { dead = 0; live = 0 }) ≡ 0 };
+
     // Law: a count is its number, so what is said of the number leaves one answer.
     ghost one: { (a b : Self) → number a ≡ number b → a ≡ b };
 }
@@ -65,6 +68,8 @@ impl Count for Dead {
 
     ghost small = { λ g fit. fit.dead };
 
+    ghost none = { λ i. 0 };
+
     ghost one = { λ a b same i. record { 0 = same i } };
 
     fn zero() -> Dead {
@@ -86,6 +91,8 @@ impl Count for Live {
     ghost held = { sets.cost };
 
     ghost small = { λ g fit. fit.live };
+
+    ghost none = { λ i. 0 };
 
     ghost one = { λ a b same i. record { 0 = same i } };
 
