@@ -67,7 +67,7 @@ pub data Went (n : ℕ) (amounts₀ ex₀ la₀ amounts ex la order : List ℕ) 
   fell : r ≡ true → lacks n la < lacks n la₀ → Went n amounts₀ ex₀ la₀ amounts ex la order count i r
   level : r ≡ true → ((h : ℕ) → get_or la h 0 ≡ get_or la₀ h 0) → (j : ℕ) → j < i → 0 < get_or ex (get_or order j 0) 0 → Went n amounts₀ ex₀ la₀ amounts ex la order count i r
 
--- From place i on all have had their turn, r is whether one had something to send, and no more had than places are passed.
+-- From place i on all have had their turn, and r is whether one had something to send: if so, a place is passed.
 pub record Pouring (n e : ℕ) (ends amounts₀ ex₀ la₀ ways₀ t₀ order : List ℕ) (started count : ℕ) (amounts ex la ways t : List ℕ) (r : Bool) (i : ℕ) : Type 0 where
   pub from : started ≤ i
   pub within : only r 1 + i ≤ count
